@@ -7,8 +7,8 @@ ghost use Rattle.asgi_apps.specs.Ends.{GoesOn};
 
 use crate::rows::{Parts, joined};
 use asgi_apps::{AppFault, AppTask, Application};
-use asgi_conn::{Host, Outcome, Report};
-use asgi_fakes::texts::{GET, HELLO, LAST_CHUNK, PLAIN_HEAD, POST, SERVER_ERROR, TWO_REQUESTS};
+use asgi_conn::{Host, Outcome};
+use asgi_fakes::texts::{GET, HELLO, PLAIN_HEAD, POST, SERVER_ERROR, TWO_REQUESTS};
 use asgi_fakes::{
     App, End, Heard, Memory, Pieces, Said, Scripted, ScriptedTask, Step, Way, is_served, line_of,
     serve, serve_by, text_of,
@@ -48,6 +48,8 @@ const IDLE: End = (Outcome::Idle, 1, 0);
 const FINISHED: End = (Outcome::Finished, 1, 0);
 
 const REFUSED: End = (Outcome::Refused(500), 1, 0);
+
+const TWICE: End = (Outcome::Finished, 2, 0);
 
 /// The only premise is that a poll returns: what waits ends at a limit.
 const WAITING: &[Row] = &[
@@ -201,6 +203,8 @@ fn flood(alloc: Global) -> Result<Vec<u8>, AllocError> {
     Ok(input)
 }
 
+const WAITS: App = App::Scripted(&[Step::Waits]);
+
 /// Whether nothing is written for a task that waits, the connection is idle, and at most 17 reads are made.
 fn is_held_back<H: Host>(rt: &H, way: Way, limits: &Limits, input: &[u8]) -> io::Result<bool> {
     let mut line = line_of(rt, Pieces::new(input, 1 << 20, 1 << 20))?;
@@ -213,7 +217,7 @@ fn is_line_held_back<H: Host>(
     limits: &Limits,
     line: &mut Memory<Pieces>,
 ) -> io::Result<bool> {
-    let (report, _) = serve_by(rt, way, limits, App::Scripted(&[Step::Waits]), line)?;
+    let (report, _) = serve_by(rt, way, limits, WAITS, line)?;
     let reads = line.stream().map_or(0, |pair| pair.reader.reads);
     let is_idle = (report.outcome, report.exchanges, report.faults) == IDLE;
     Ok(is_idle && text_of(line).is_empty() && reads <= 17)
@@ -342,32 +346,43 @@ fn talk<E: AppEnd>(alloc: Global, cx: &mut Context<'_>, end: &mut E) -> Poll<Res
     }
 }
 
-/// How a connection with this input ends, and whether this is written.
-fn greeted<H: Host, T: AppTask + Send + 'static, A: Application<Task = T>>(
+/// Whether a connection with this input ends like this, with this text written.
+fn is_greeted<H: Host, T: AppTask + Send + 'static, A: Application<Task = T>>(
     rt: &H,
     way: Way,
     limits: &Limits,
     app: &A,
     input: &[u8],
     wanted: &[u8],
-) -> io::Result<(Report, bool)> {
+    end: End,
+) -> io::Result<bool> {
     let mut line = line_of(rt, Pieces::new(input, 4_096, 4_096))?;
-    let (report, _) = serve(rt, way, limits, app, &mut line)?;
-    let is_written = text_of(&line) == wanted;
-    Ok((report, is_written))
+    is_line_greeted(rt, way, limits, app, &mut line, wanted, end)
 }
 
-fn ends_so(served: (Report, bool), end: End) -> bool {
-    let (report, is_written) = served;
-    is_written && (report.outcome, report.exchanges, report.faults) == end
+fn is_line_greeted<H: Host, T: AppTask + Send + 'static, A: Application<Task = T>>(
+    rt: &H,
+    way: Way,
+    limits: &Limits,
+    app: &A,
+    line: &mut Memory<Pieces>,
+    wanted: &[u8],
+    end: End,
+) -> io::Result<bool> {
+    let (report, _) = serve(rt, way, limits, app, line)?;
+    let ended = (report.outcome, report.exchanges, report.faults);
+    Ok(ended == end && text_of(line) == wanted)
 }
+
+const TALKS: Greets = Greets(Habit::Talks);
+
+const SIPS: Greets = Greets(Habit::Sips);
 
 #[test]
 fn an_application_that_talks_on_ends_at_a_limit(rt: HostRuntime) -> Result<(), Fail> {
     let limits = limits_of(30_000, 500)?;
     for way in WAYS {
-        let served = greeted(&rt, way, &limits, &Greets(Habit::Talks), GET, HELLO)?;
-        assert!(rt; ends_so(served, IDLE));
+        assert!(rt; is_greeted(&rt, way, &limits, &TALKS, GET, HELLO, IDLE)?);
     }
     Ok(())
 }
@@ -389,8 +404,7 @@ fn a_task_that_takes_one_event_leaves_the_rest_of_a_body(rt: HostRuntime) -> Res
     let wanted = joined(rt.alloc(), &[HELLO, HELLO])?;
     let limits = Limits::usual();
     for way in WAYS {
-        let served = greeted(&rt, way, &limits, &Greets(Habit::Sips), &input, &wanted)?;
-        assert!(rt; ends_so(served, (Outcome::Finished, 2, 0)));
+        assert!(rt; is_greeted(&rt, way, &limits, &SIPS, &input, &wanted, TWICE)?);
     }
     Ok(())
 }
@@ -410,10 +424,7 @@ fn kind_of<H: Host>(rt: &H, way: Way, number: u32) -> Result<Option<usize>, Fail
     for (place, (end, parts)) in FAULTED.iter().enumerate() {
         let wanted = joined(rt.alloc(), parts)?;
         let app = Greets(Habit::FaultsAt(number));
-        if ends_so(
-            greeted(rt, way, &limits, &app, TWO_REQUESTS, &wanted)?,
-            *end,
-        ) {
+        if is_greeted(rt, way, &limits, &app, TWO_REQUESTS, &wanted, *end)? {
             return Ok(Some(place));
         }
     }
@@ -467,8 +478,7 @@ impl<R: Clock + Copy + Drop> AppTask for SlowTask<R> {
 fn an_application_that_takes_seconds_is_waited_for(rt: HostRuntime) -> Result<(), Fail> {
     let limits = Limits::usual();
     for way in WAYS {
-        let served = greeted(&rt, way, &limits, &Slow(rt), GET, HELLO)?;
-        assert!(rt; ends_so(served, FINISHED));
+        assert!(rt; is_greeted(&rt, way, &limits, &Slow(rt), GET, HELLO, FINISHED)?);
     }
     Ok(())
 }

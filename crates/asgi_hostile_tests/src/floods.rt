@@ -2,7 +2,7 @@
 use asgi_apps::{AppFault, Application, Says};
 use asgi_conn::{Host, Outcome};
 use asgi_fakes::texts::{GET, LAST_CHUNK, PLAIN_HEAD};
-use asgi_fakes::{Pieces, Way, line_of, serve, text_of};
+use asgi_fakes::{Memory, Pieces, Way, line_of, serve, text_of};
 use asgi_types::{Headers, Kind, Limits, Octets, Outgoing, Scope};
 use std::alloc::{AllocError, Global};
 use std::io;
@@ -83,10 +83,21 @@ fn text_due(alloc: Global, floods: Floods) -> Result<Vec<u8>, AllocError> {
     Ok(text)
 }
 
-fn ended<H: Host>(rt: &H, way: Way, floods: Floods, wanted: &[u8]) -> io::Result<(Outcome, bool)> {
+/// Whether all of it is written, and the connection is finished.
+fn is_written<H: Host>(rt: &H, way: Way, floods: &Floods, wanted: &[u8]) -> io::Result<bool> {
     let mut line = line_of(rt, Pieces::new(GET, 4_096, 4_096))?;
-    let (report, _) = serve(rt, way, &Limits::usual(), &floods, &mut line)?;
-    Ok((report.outcome, text_of(&line) == wanted))
+    is_line_written(rt, way, floods, &mut line, wanted)
+}
+
+fn is_line_written<H: Host>(
+    rt: &H,
+    way: Way,
+    floods: &Floods,
+    line: &mut Memory<Pieces>,
+    wanted: &[u8],
+) -> io::Result<bool> {
+    let (report, _) = serve(rt, way, &Limits::usual(), floods, line)?;
+    Ok(report.outcome == Outcome::Finished && text_of(line) == wanted)
 }
 
 #[test]
@@ -94,10 +105,8 @@ fn very_much_is_written_whole(rt: HostRuntime) -> Result<(), Fail> {
     for floods in FLOODS {
         let wanted = text_due(rt.alloc(), *floods)?;
         for way in [Way::Inline, Way::Beside] {
-            let ended = ended(&rt, way, *floods, &wanted)?;
-            assert_eq!(rt;
-                ended,
-                (Outcome::Finished, true),
+            assert!(rt;
+                is_written(&rt, way, floods, &wanted)?,
                 "{} events",
                 floods.events
             );
