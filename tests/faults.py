@@ -355,7 +355,7 @@ class Little(unittest.TestCase):
         # A client is answered, or gets a beginning of that, or the response to a fault, or is closed; and each that is
         # answered whole has its report (docs/SERVING.md).
         whole = re.compile(rb"HTTP/1\.1 200 OK\r\n.*" + re.escape(GREETING), re.DOTALL)
-        report = re.compile(r"\d+ (1 finished|1 refused 500|[01] no-memory|[01] no-thread)")
+        report = re.compile(r"\d+ ([01] finished|1 refused 500|[01] no-memory|[01] no-thread)")
         for spare in (0, 32, 128, 512, 2_048, 8_192):
             with self.subTest(spare=spare), Server("hello", MOST, workers=8) as server:
                 with open(f"/proc/{server.ran.pid}/status", encoding="ascii") as it:
@@ -363,7 +363,8 @@ class Little(unittest.TestCase):
                 resource.prlimit(server.ran.pid, resource.RLIMIT_AS, (1024 * (size + spare), 1024 * (size + spare)))
                 with ThreadPoolExecutor(64) as pool:
                     answers = list(pool.map(lambda _: ask_in_vain(server), range(MOST)))
-                lines, errors, status = server.ended()
+                # One that was lost before it was accepted does not count.
+                lines, errors, status = server.used_up(MOST)
                 self.assertIn((errors, status), [("", 0), (FAULT, 5)])
                 self.assertEqual([int(it.split()[0]) for it in lines], list(range(1, len(lines) + 1)))
                 self.assertEqual([it for it in lines if not report.fullmatch(it)], [])
