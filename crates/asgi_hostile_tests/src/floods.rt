@@ -8,13 +8,11 @@ use std::alloc::{AllocError, Global};
 use std::io;
 use std::test::Fail;
 
-/// Sixteen bytes of content, so often in each event, and what stands before them: their size in hexadecimal.
-const BLOCK: &[u8] = b"0123456789abcdef";
-
-/// Answers with so many events of so many blocks each.
+/// Answers with so many events, each of this block so many times.
 #[derive(Clone, Copy)]
 struct Floods {
     events: usize,
+    block: &'static [u8],
     blocks: usize,
     /// The size of one event in hexadecimal, as a line.
     line: &'static [u8],
@@ -23,37 +21,47 @@ struct Floods {
 const FLOODS: &[Floods] = &[
     Floods {
         events: 10_000,
+        block: b"0123456789abcdef",
         blocks: 1,
         line: b"10\r\n",
     },
     Floods {
         events: 1,
-        blocks: 4_194_304,
+        block: &[b'a'; 1_024],
+        blocks: 65_536,
         line: b"4000000\r\n",
     },
 ];
 
-fn add_blocks(text: &mut Vec<u8>, blocks: usize) -> Result<(), AllocError> {
-    for _block in 0..blocks {
-        text.extend_from_slice(BLOCK)?;
+/// Adds the content of one event.
+fn add_content(text: &mut Vec<u8>, floods: Floods) -> Result<(), AllocError> {
+    for _block in 0..floods.blocks {
+        text.extend_from_slice(floods.block)?;
     }
     Ok(())
 }
 
-fn body(alloc: Global, blocks: usize, more_body: bool) -> Result<Outgoing, AllocError> {
+fn body(alloc: Global, floods: Floods) -> Result<Outgoing, AllocError> {
     let mut text = Vec::new(alloc);
-    add_blocks(&mut text, blocks)?;
+    add_content(&mut text, floods)?;
     Ok(Outgoing::ResponseBody {
         body: Octets::new(text),
-        more_body,
+        more_body: true,
     })
+}
+
+fn last_body(alloc: Global) -> Outgoing {
+    Outgoing::ResponseBody {
+        body: Octets::new(Vec::new(alloc)),
+        more_body: false,
+    }
 }
 
 fn add_bodies(says: &mut Says, alloc: Global, floods: Floods) -> Result<(), AllocError> {
     for _event in 0..floods.events {
-        says.add(body(alloc, floods.blocks, true)?)?;
+        says.add(body(alloc, floods)?)?;
     }
-    says.add(body(alloc, 0, false)?)
+    says.add(last_body(alloc))
 }
 
 impl Application for Floods {
@@ -76,7 +84,7 @@ fn text_due(alloc: Global, floods: Floods) -> Result<Vec<u8>, AllocError> {
     let mut text = Vec::from_slice(alloc, PLAIN_HEAD)?;
     for _event in 0..floods.events {
         text.extend_from_slice(floods.line)?;
-        add_blocks(&mut text, floods.blocks)?;
+        add_content(&mut text, floods)?;
         text.extend_from_slice(b"\r\n")?;
     }
     text.extend_from_slice(LAST_CHUNK)?;
