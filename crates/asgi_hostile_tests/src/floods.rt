@@ -18,6 +18,7 @@ struct Floods {
     line: &'static [u8],
 }
 
+/// 10,000 events of 16 bytes.
 const MANY: Floods = Floods {
     events: 10_000,
     block: b"0123456789abcdef",
