@@ -29,7 +29,8 @@ import unittest
 from concurrent.futures import ThreadPoolExecutor
 
 import servers
-from servers import GET, GREETING, HANDSHAKE, SECONDS, Server, read_all
+from many import MOST, greeted
+from servers import GET, GREETING, HANDSHAKE, SECONDS, Server, free_port, listens, read_all, wait_for
 
 TOP = os.path.dirname(os.path.dirname(os.path.realpath(__file__)))
 LIBRARY = ""
@@ -192,6 +193,67 @@ class Held(unittest.TestCase):
             reports, errors, status = server.ended()
             self.assertEqual((reports[0][:4], len(reports), errors, status), ("1 1 ", 2, "", 0))
 
+    def unread(self, asked, connect):
+        """How long another client waits for one that asks this on and on and reads nothing, where there is one worker."""
+        first, stop = connect(4_096), threading.Event()
+
+        def send():
+            first.settimeout(0.1)
+            rest = asked
+            while not stop.is_set():
+                try:
+                    rest = rest[first.send(rest) :] or asked
+                except TimeoutError:
+                    continue
+                except OSError:
+                    return
+
+        sending = threading.Thread(target=send)
+        sending.start()
+        time.sleep(2)
+        began = time.monotonic()
+        with connect() as line:
+            line.settimeout(HELD)
+            line.sendall(b"GET / HTTP/1.0\r\n\r\n")
+            answer = read_all(line)
+        waited = time.monotonic() - began
+        stop.set()
+        sending.join()
+        first.close()
+        self.assertTrue(answer.startswith(b"HTTP/1.1 200 OK\r\n"), answer)
+        return waited
+
+    def connection(self, port, room=None):
+        """A connection to a port, with this much room for what it is sent."""
+        line = socket.socket()
+        if room:
+            line.setsockopt(socket.SOL_SOCKET, socket.SO_RCVBUF, room)
+        line.connect(("127.0.0.1", port))
+        return line
+
+    def test_a_client_that_reads_no_answer_does_not_hold_the_server(self):
+        post = b"POST / HTTP/1.1\r\nHost: a\r\nContent-Length: 16000\r\n\r\n" + bytes(16_000)
+        with Server("echo", 2, workers=1) as server:
+            self.assertLess(self.unread(post, lambda room=None: self.connection(server.port, room)), HELD)
+            reports, errors, status = server.ended()
+            self.assertRegex(reports[0], r"^1 \d+ write-failed \d+$")
+            self.assertEqual((reports[1:], errors, status), (["2 1 finished"], "", 0))
+
+    def test_a_client_that_reads_no_answer_does_not_hold_a_server_of_one_thread(self):
+        port = free_port()
+        words = [f"{TOP}/crates/asgi_port_example/out/asgi_port_example", str(port), "2"]
+        with subprocess.Popen(words, stdout=subprocess.PIPE) as ran:
+            wait_for(lambda: listens(port) or ran.poll() is not None, "the example does not listen")
+            try:
+                # The answer has the path.
+                get = b"GET /%s HTTP/1.1\r\nHost: a\r\n\r\n" % (b"a" * 16_000)
+                self.assertLess(self.unread(get, lambda room=None: self.connection(port, room)), HELD)
+                reports = ran.communicate(timeout=SECONDS)[0].decode().splitlines()
+            finally:
+                ran.kill()
+            self.assertRegex(reports[0], r"^\d+ exchanges, write-failed \d+$")
+            self.assertEqual((reports[1:], ran.returncode), (["1 exchanges, finished"], 0))
+
     def refused(self, post):
         """Sees that five clients that send too much are told so, and that all are reported."""
         with Server("echo", 5) as server:
@@ -275,6 +337,54 @@ class Held(unittest.TestCase):
             self.assertEqual(server.ran.wait(SECONDS), -signal.SIGTERM)
             reads.join()
             self.assertEqual(lines, [b"%d 1 finished\n" % number for number in range(1, 21)])
+
+
+class Little(unittest.TestCase):
+    """A server with few descriptors, or with little memory, under a thousand clients."""
+
+    def test_few_descriptors_are_enough_for_a_thousand_clients(self):
+        # Four are the program's own; with 16 not all of 8 workers, 4 that wait and one in hand have one each.
+        for few, clients in ((16, MOST), (8, MOST), (5, 100)):
+            with self.subTest(few=few), Server("hello", clients, workers=8) as server:
+                resource.prlimit(server.ran.pid, resource.RLIMIT_NOFILE, (few, few))
+                with ThreadPoolExecutor(64) as pool:
+                    self.assertEqual(sum(pool.map(lambda _: greeted(server), range(clients))), clients)
+                self.assertEqual(server.ended(), ([f"{number} 1 finished" for number in range(1, clients + 1)], "", 0))
+
+    def test_little_memory_is_enough_or_ends_the_server_as_the_table_has_it(self):
+        # A client is answered, or gets a beginning of that, or the response to a fault, or is closed; and each that is
+        # answered whole has its report (docs/SERVING.md).
+        whole = re.compile(rb"HTTP/1\.1 200 OK\r\n.*" + re.escape(GREETING), re.DOTALL)
+        report = re.compile(r"\d+ ([01] finished|1 refused 500|[01] no-memory|[01] no-thread)")
+        for spare in (0, 32, 128, 512, 2_048, 8_192):
+            with self.subTest(spare=spare), Server("hello", MOST, workers=8) as server:
+                with open(f"/proc/{server.ran.pid}/status", encoding="ascii") as it:
+                    size = int(re.search(r"^VmSize:\s+(\d+) kB$", it.read(), re.M)[1])
+                resource.prlimit(server.ran.pid, resource.RLIMIT_AS, (1024 * (size + spare), 1024 * (size + spare)))
+                with ThreadPoolExecutor(64) as pool:
+                    answers = list(pool.map(lambda _: ask_in_vain(server), range(MOST)))
+                # One that was lost before it was accepted does not count.
+                lines, errors, status = server.used_up(MOST)
+                self.assertIn((errors, status), [("", 0), (FAULT, 5)])
+                self.assertEqual([int(it.split()[0]) for it in lines], list(range(1, len(lines) + 1)))
+                self.assertEqual([it for it in lines if not report.fullmatch(it)], [])
+                self.assertEqual(sum(it.endswith(" 1 finished") for it in lines), sum(bool(whole.fullmatch(it)) for it in answers))
+                if status == 0:
+                    self.assertEqual(len(lines), MOST)
+
+
+def ask_in_vain(server):
+    """What a client is answered that sends no more than a request; nothing where there is no server any more."""
+    answer = b""
+    try:
+        with server.connect() as line:
+            line.sendall(GET)
+            line.shutdown(socket.SHUT_WR)
+            while piece := line.recv(1 << 16):
+                answer += piece
+    except OSError:
+        pass
+    return answer
 
 
 def try_edit(name):

@@ -172,6 +172,47 @@ class Once(unittest.TestCase):
             with self.subTest(app=app, given=given[:80]):
                 self.assertEqual(run(["once", app], given), (0, wanted, b""))
 
+    def test_keeps_to_the_usual_limits(self):
+        # 64 fields and 16 KiB of a head, with what stands before and after (RFC 6585, section 5), 256 bytes of a size line, 16 KiB
+        # of a trailer section; and ten mebibytes of what has no end.
+        def head(fields):
+            return GET[:-2] + fields + b"\r\n"
+
+        few, many, ten = b"".join(b"x-%d: y\r\n" % at for at in range(63)), b"z: y\r\n", b"a" * 10_485_760
+        room = 16_384 - len(GET)
+        too_large, bad = refusal(b"431 Request Header Fields Too Large"), refusal(b"400 Bad Request")
+        chunked = post(b"Transfer-Encoding: chunked\r\n")
+        rows = [
+            ("64 fields", "hello", head(few), HELLO),
+            ("65 fields", "hello", head(few + many), bad),
+            ("a name that fills the head", "hello", head(b"n" * (room - 3) + b":\r\n"), HELLO),
+            ("a name of a byte more", "hello", head(b"n" * (room - 2) + b":\r\n"), too_large),
+            ("a name of 16 KiB", "hello", head(b"n" * 16_384 + b": y\r\n"), too_large),
+            ("a value that fills the head", "hello", head(b"n:" + b"v" * (room - 4) + b"\r\n"), HELLO),
+            ("a value of a byte more", "hello", head(b"n:" + b"v" * (room - 3) + b"\r\n"), too_large),
+            ("a target that fills the head", "hello", GET.replace(b"/ ", b"/" + b"p" * room + b" "), HELLO),
+            ("a target of a byte more", "hello", GET.replace(b"/ ", b"/" + b"p" * (room + 1) + b" "), too_large),
+            ("empty lines that fill the head", "hello", b"\r\n" * (room // 2) + GET, HELLO),
+            ("an empty line more", "hello", b"\r\n" * (room // 2 + 1) + GET, too_large),
+            ("10 MiB without a line feed", "hello", ten, too_large),
+            ("10 MiB of a method", "hello", ten + GET, too_large),
+            ("10 MiB of a target", "hello", b"GET /" + ten + b" HTTP/1.1\r\nHost: a\r\n\r\n", too_large),
+            ("10 MiB of a value", "hello", head(b"n: " + ten + b"\r\n"), too_large),
+            ("10 MiB of line feeds", "hello", b"\n" * len(ten), too_large),
+            ("10 MiB of NUL bytes", "hello", bytes(len(ten)), too_large),
+            ("10 MiB of fields", "hello", GET[:-2] + b"x: y\r\n" * 1_747_626, too_large),
+            ("a size line of 256 bytes", "echo", chunked + b"0;" + b"a" * 252 + b"\r\n\r\n", echoed(b"")),
+            ("a size line of 257 bytes", "echo", chunked + b"0;" + b"a" * 253 + b"\r\n\r\n", bad),
+            ("10 MiB of a size", "echo", chunked + b"0" * len(ten), bad),
+            ("10 MiB of an extension", "echo", chunked + b"5;" + ten, bad),
+            ("64 trailer fields", "echo", chunked + b"0\r\n" + few + many + b"\r\n", echoed(b"")),
+            ("65 trailer fields", "echo", chunked + b"0\r\n" + few + many * 2 + b"\r\n", bad),
+            ("10 MiB of a trailer", "echo", chunked + b"0\r\nx: " + ten, bad),
+        ]
+        for name, app, given, wanted in rows:
+            with self.subTest(name):
+                self.assertEqual(run(["once", app], given), (0, wanted, b""))
+
     def test_answers_a_request_that_comes_byte_by_byte(self):
         with Talk("hello") as talk:
             for place in range(len(GET)):

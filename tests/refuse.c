@@ -32,7 +32,7 @@ static void start(void) {
 
 static int refused(void *caller) {
   if (wanted < 0) start();
-  if ((word)caller < from || (word)caller >= to || ++made != (word)wanted) return 0;
+  if ((word)caller < from || (word)caller >= to || __sync_add_and_fetch(&made, 1) != (word)wanted) return 0;
   if (getenv("REFUSE_TO")) write(atoi(getenv("REFUSE_TO")), "r", 1);
   return 1;
 }

@@ -17,6 +17,9 @@ import sys
 import threading
 import time
 import unittest
+from concurrent.futures import ThreadPoolExecutor
+
+import fuzz
 
 PROGRAM = ""
 PYTHON = "/usr/bin/python3"
@@ -82,6 +85,25 @@ def frame(opcode, payload=b"", final=True, reserved=0, mask=True, form=None):
 def answered(opcode, payload=b""):
     """A frame of a server: whole, and without a mask."""
     return bytes([0x80 | opcode]) + length_of(len(payload), 0) + payload
+
+
+def code_of(back):
+    """The code of a close that is all that was sent, with a reason or none (section 5.5.1)."""
+    [(opcode, body)] = fuzz.frames(back)
+    if opcode != CLOSE or len(body) < 2:
+        raise AssertionError(f"{back!r} is no close with a code")
+    body[2:].decode()
+    return int.from_bytes(body[:2], "big")
+
+
+def spoken(given, app="wsecho"):
+    """The frames that answer those of a client which come at once, after the opening handshake, through pipes."""
+    words = {"stdout": subprocess.PIPE, "stderr": subprocess.PIPE, "timeout": SECONDS, "check": False}
+    ran = subprocess.run([PROGRAM, "once", app], input=HANDSHAKE + given, **words)
+    head, end, text = ran.stdout.partition(b"\r\n\r\n")
+    if (head[:13], end, ran.returncode, ran.stderr) != (b"HTTP/1.1 101 ", b"\r\n\r\n", 0, b""):
+        raise AssertionError(f"{ran!r} is no session")
+    return fuzz.frames(text)
 
 
 class Served:
@@ -416,6 +438,98 @@ FAULTS = [
 ]
 
 
+# The codes that a close may have (sections 7.4.1 and 7.4.2), and those that were registered later, which may be taken or not.
+LAWFUL = {*range(1000, 1004), *range(1007, 1012), *range(3000, 5000)}
+LATER = {1012, 1013, 1014}
+# Texts that are cut at each place: one with characters of one to four bytes, and the edges of what is no UTF-8 (RFC 3629, section 4).
+TEXTS = [
+    b"a\xc3\xa9\xe2\x82\xac\xf0\x9f\x98\x80z", b"\xf4\x8f\xbf\xbf\xee\x80\x80\xed\x9f\xbf\xe0\xa0\x80\xf0\x90\x80\x80\xc2\x80",
+    b"a\x80", b"a\xbf\xbf", b"\xc0\x80", b"\xc1\xbf", b"\xc3\xc3", b"\xe0\x9f\xbf", b"\xe2\x82a", b"\xed\xa0\x80", b"\xed\xbf\xbf",
+    b"\xf0\x8f\xbf\xbf", b"\xf0\x9f\x98a", b"\xf4\x90\x80\x80", b"\xf5\x80\x80\x80", b"\xf8\x88\x80\x80\x80", b"\xfe", b"\xff\xff",
+]  # fmt: skip
+
+
+def bent_texts():
+    """The texts, each beginning of the first, and the first with a byte of it replaced at each place."""
+    first = TEXTS[0]
+    beginnings = [first[:end] for end in range(len(first))]
+    return TEXTS + beginnings + [first[:at] + b"\xff" + first[at + 1 :] for at in range(len(first))]
+
+
+def due(payload):
+    """What answers a text by Python's own reading of UTF-8: the text, or a close for what is none (sections 5.6 and 8.1)."""
+    try:
+        payload.decode()
+    except UnicodeDecodeError:
+        return [(CLOSE, NOT_CONSISTENT)]
+    return [(TEXT, payload), (CLOSE, 1000)]
+
+
+def coded(frames):
+    """The frames, each close by its code alone."""
+    return [(opcode, int.from_bytes(body[:2], "big") if opcode == CLOSE else body) for opcode, body in frames]
+
+
+class Edges(unittest.TestCase):
+    """What comes at once, through pipes: a program for each row, as many side by side as there are processors."""
+
+    def each(self, rows, found):
+        with ThreadPoolExecutor(len(os.sched_getaffinity(0))) as pool:
+            return list(zip(rows, pool.map(found, rows)))
+
+    def test_a_close_is_answered_by_its_code_or_as_a_fault(self):
+        codes = [*range(5001), 65_535]
+        wrong = []
+        for code, back in self.each(codes, lambda code: coded(spoken(frame(CLOSE, struct.pack(">H", code) + b"r")))):
+            wanted = [code] if code in LAWFUL else [code, PROTOCOL_ERROR] if code in LATER else [PROTOCOL_ERROR]
+            wrong += [] if len(back) == 1 and back[0][0] == CLOSE and back[0][1] in wanted else [(code, back)]
+        self.assertEqual(wrong, [])
+
+    def test_a_text_is_judged_alike_wherever_it_is_cut(self):
+        rows = [(text, cut) for text in bent_texts() for cut in range(len(text) + 1)]
+        end = frame(CLOSE, struct.pack(">H", 1000))
+
+        def found(row):
+            text, cut = row
+            return coded(spoken(frame(TEXT, text[:cut], final=False) + frame(CONTINUATION, text[cut:]) + end))
+
+        self.assertEqual([(row, back) for row, back in self.each(rows, found) if back != due(row[0])], [])
+
+    def test_a_text_with_a_ping_inside_is_judged_alike(self):
+        end = frame(CLOSE, struct.pack(">H", 1000))
+        for text in TEXTS:
+            for cut in range(len(text) + 1):
+                given = frame(TEXT, text[:cut], final=False) + PING_HELLO + frame(CONTINUATION, text[cut:]) + end
+                back = coded(spoken(given))
+                # A text that is faulty before the ping may end the session before it (section 8.1).
+                self.assertIn([it for it in back if it != (PONG, b"Hello")], [due(text)], (text, cut))
+
+    def test_ten_thousand_pings_are_answered_in_order(self):
+        payloads = [number.to_bytes(4, "big") for number in range(10_000)]
+        given = b"".join(frame(PING, it) for it in payloads)
+        back = spoken(given + frame(CLOSE, struct.pack(">H", 1000)))
+        self.assertEqual(coded(back[-1:]), [(CLOSE, 1000)])
+        # A pong may answer several pings, with the payload of the last (section 5.5.3).
+        pongs = [int.from_bytes(body, "big") for opcode, body in back[:-1] if opcode == PONG]
+        self.assertEqual((len(back), pongs), (len(pongs) + 1, sorted(set(pongs))))
+        self.assertEqual(pongs[-1], len(payloads) - 1)
+
+    def test_ten_thousand_fragments_are_one_message(self):
+        for between in (b"", frame(PONG, b"x")):
+            parts = [frame(TEXT if at == 0 else CONTINUATION, b"%04d" % at, final=at == 9_999) + between for at in range(10_000)]
+            back = spoken(b"".join(parts) + frame(CLOSE, struct.pack(">H", 1000)))
+            self.assertEqual(coded(back), [(TEXT, b"".join(b"%04d" % at for at in range(10_000))), (CLOSE, 1000)])
+
+    def test_a_mask_is_taken_off_byte_by_byte(self):
+        # Any key is lawful (section 5.3).
+        for key in (bytes(4), b"\xff" * 4, b"\0\xff\0\xff", b"\x80\0\0\x01", MASK):
+            for size in (0, 1, 2, 3, 4, 5, 125, 126, 70_001):
+                payload = pattern(size)
+                given = b"\x82" + length_of(size, 0x80) + key + masked(payload, key)
+                back = spoken(given + frame(CLOSE, struct.pack(">H", 1000)))
+                self.assertEqual(coded(back), [(BINARY, payload), (CLOSE, 1000)], (key, size))
+
+
 class Faults(Case):
     """Sessions that a client ends, in a way that the standard forbids or by leaving."""
 
@@ -427,7 +541,7 @@ class Faults(Case):
                 self.assertEqual(client.read(len(HELLO_BACK)), HELLO_BACK)
                 client.write(given)
                 # The client leaves its side open, and the connection ends all the same.
-                self.assertEqual(client.rest(), answered(CLOSE, struct.pack(">H", code)))
+                self.assertEqual(code_of(client.rest()), code)
                 self.ends_well(served)
 
     def test_what_comes_before_a_faulty_frame_is_answered(self):
@@ -435,7 +549,8 @@ class Faults(Case):
         client.open()
         client.write(HELLO + HELLO + frame(TEXT, b"Hello", mask=False) + HELLO)
         back = client.rest()
-        self.assertEqual(back, 2 * HELLO_BACK + answered(CLOSE, struct.pack(">H", PROTOCOL_ERROR)))
+        self.assertEqual(back[: 2 * len(HELLO_BACK)], 2 * HELLO_BACK)
+        self.assertEqual(code_of(back[2 * len(HELLO_BACK) :]), PROTOCOL_ERROR)
         self.ends_well(served)
 
     def test_a_client_that_leaves_ends_the_program(self):

@@ -1,8 +1,13 @@
-//! Tests of inputs that are meant to be read in two ways, and of what is no HTTP at all, as tables on the public call.
+//! Tests of inputs that are meant to be read in two ways, of what is no HTTP at all, and of hostile applications, as tables on
+//! the public call.
 #![tactic(auto)]
 
 #[cfg(test)]
+mod apps;
+#[cfg(test)]
 mod chunks;
+#[cfg(test)]
+mod floods;
 #[cfg(test)]
 mod lengths;
 #[cfg(test)]
@@ -11,3 +16,5 @@ mod lines;
 mod others;
 #[cfg(test)]
 mod rows;
+#[cfg(test)]
+mod targets;

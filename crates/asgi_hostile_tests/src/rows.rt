@@ -43,7 +43,7 @@ pub const TWO: Answer = (&[ROOT, EVIL_ANSWER], Outcome::Finished, 2);
 /// The input ends within a head.
 pub const OPEN: Answer = (&[], Outcome::InputBroke, 0);
 
-fn joined(alloc: Global, parts: &[&[u8]]) -> Result<Vec<u8>, AllocError> {
+pub fn joined(alloc: Global, parts: &[&[u8]]) -> Result<Vec<u8>, AllocError> {
     let mut bytes = Vec::new(alloc);
     for part in parts {
         bytes.extend_from_slice(part)?;

@@ -2,7 +2,7 @@
 use crate::queue::{End, is_reported, serve_feed};
 use asgi_apps::{AppFault, AppTask, Application, Hello};
 use asgi_conn::{Host, Outcome, Report};
-use asgi_fakes::texts::{GET, HELLO};
+use asgi_fakes::texts::{GET, HELLO, SERVER_ERROR};
 use asgi_fakes::{Said, Scripted, ScriptedTask, Step};
 use asgi_pipes::AppEnd;
 use asgi_types::{BadLimit, Limits, Scope, State};
@@ -18,7 +18,36 @@ const GREETS: Scripted = Scripted(&[
     Step::Says(Said::Last("hello\n")),
 ]);
 
-/// Responds as `Hello` once this many tasks have been polled.
+const FAULTS: Scripted = Scripted(&[Step::Faults]);
+
+/// The path whose requests fault, and a request for it.
+const FATAL: &str = "/f";
+
+const GET_FATAL: &[u8] = b"GET /f HTTP/1.1\r\nHost: a\r\n\r\n";
+
+fn is_fatal(scope: &Scope) -> bool {
+    match scope {
+        Scope::Http(scope) => scope.path.as_str() == FATAL,
+        _ => false,
+    }
+}
+
+/// Responds as `Hello`; a task for the fatal path faults at once.
+#[derive(Clone, Copy, Debug)]
+struct Faulty;
+
+impl Application for Faulty {
+    type Task = ScriptedTask;
+
+    fn call(&self, alloc: Global, scope: &Scope) -> Result<ScriptedTask, AppFault> {
+        if is_fatal(scope) {
+            return FAULTS.call(alloc, scope);
+        }
+        GREETS.call(alloc, scope)
+    }
+}
+
+/// Responds as `Hello` once this many tasks have been polled. A call for the fatal path faults, and is not counted.
 #[derive(Drop)]
 struct Gathers {
     need: u64,
@@ -37,6 +66,9 @@ impl Application for Gathers {
     type Task = GathersTask;
 
     fn call(&self, alloc: Global, scope: &Scope) -> Result<GathersTask, AppFault> {
+        if is_fatal(scope) {
+            return Err(AppFault::Failed);
+        }
         Ok(GathersTask {
             need: self.need,
             polled: Arc::try_clone(&self.polled)?,
@@ -135,14 +167,27 @@ fn gathered<H: Host + Sync>(
     idle_turns: u32,
     ends: &[End],
 ) -> Result<bool, Fail> {
+    are_gathered(rt, count as u64, &[GET], workers, idle_turns, ends)
+}
+
+/// Connections with these inputs in turn, as many as there are ends, at a gate that opens once so many tasks have been
+/// polled.
+fn are_gathered<H: Host + Sync>(
+    rt: &H,
+    need: u64,
+    inputs: &[&[u8]],
+    workers: u64,
+    idle_turns: u32,
+    ends: &[End],
+) -> Result<bool, Fail> {
     let state = State::new(rt.alloc());
     let app = Gathers {
-        need: count as u64,
+        need,
         polled: Arc::new(rt.alloc(), AtomicU64::new(0))?,
     };
     let limits = patient(idle_turns)?;
-    let mut texts = texts_of(rt.alloc(), count)?;
-    let reports = serve_feed(rt, &app, &state, &[GET], &mut texts, &limits, workers)?;
+    let mut texts = texts_of(rt.alloc(), ends.len())?;
+    let reports = serve_feed(rt, &app, &state, inputs, &mut texts, &limits, workers)?;
     Ok(is_reported(&reports, ends))
 }
 
@@ -158,5 +203,46 @@ fn as_many_are_served_at_once_as_there_are_workers(rt: HostRuntime) -> Result<()
 #[test]
 fn one_worker_gives_up_what_needs_two(rt: HostRuntime) -> Result<(), Fail> {
     assert!(rt; gathered(&rt, 2, 1, 600, &[(Outcome::Idle, 1), ONE])?);
+    Ok(())
+}
+
+const FAULT: End = (Outcome::Refused(500), 1);
+
+/// Whether each second of six connections faults, is answered for and is reported, and the others are served.
+fn are_apart<H: Host + Sync>(rt: &H, workers: u64) -> Result<bool, Fail> {
+    let state = State::new(rt.alloc());
+    let limits = Limits::usual();
+    let mut texts = texts_of(rt.alloc(), 6)?;
+    let inputs = [GET, GET_FATAL];
+    let reports = serve_feed(rt, &Faulty, &state, &inputs, &mut texts, &limits, workers)?;
+    let held = is_reported(&reports, &[ONE, FAULT, ONE, FAULT, ONE, FAULT]);
+    Ok(held && are_by_turns(&texts))
+}
+
+/// Whether each second text is the response to a fault, and each other one the greeting.
+fn are_by_turns(texts: &[Vec<u8>]) -> bool {
+    let mut is_fault = false;
+    for text in texts {
+        let wanted = if is_fault { SERVER_ERROR } else { HELLO };
+        if text.as_slice() != wanted {
+            return false;
+        }
+        is_fault = !is_fault;
+    }
+    true
+}
+
+#[test]
+fn a_task_that_faults_disturbs_no_other_connection(rt: HostRuntime) -> Result<(), Fail> {
+    for workers in [1, 2, 8] {
+        assert!(rt; are_apart(&rt, workers)?, "{workers} workers");
+    }
+    Ok(())
+}
+
+#[test]
+fn a_call_that_faults_leaves_those_that_wait_for_each_other(rt: HostRuntime) -> Result<(), Fail> {
+    let inputs = [GET, GET, GET_FATAL];
+    assert!(rt; are_gathered(&rt, 2, &inputs, 2, 30_000, &[ONE, ONE, FAULT])?);
     Ok(())
 }

@@ -108,3 +108,39 @@ fn a_read_that_fails_after_a_request_leaves_its_answer(rt: HostRuntime) -> Resul
     assert!(rt; is_answered(&rt, 29, Outcome::Finished)?);
     Ok(())
 }
+
+/// A request of 86 bytes, whose body comes in two chunks, and what `Echo` answers in blocks of four.
+const CHUNKS: &[u8] =
+    b"POST / HTTP/1.1\r\nHost: a\r\nTransfer-Encoding: chunked\r\n\r\n4\r\nabcd\r\n5\r\nefghi\r\n0\r\nx: y\r\n\r\n";
+
+const CHUNKS_ECHOED: &[u8] =
+    b"HTTP/1.1 200 OK\r\ncontent-type: application/octet-stream\r\ntransfer-encoding: chunked\r\n\r\n4\r\nabcd\r\n4\r\nefgh\r\n1\r\ni\r\n0\r\n\r\n";
+
+/// Whether a beginning of the answer is written, and the input broke, if the read of this number fails.
+fn is_begun<H: Host>(rt: &H, way: Way, limits: &Limits, failing: u64) -> io::Result<bool> {
+    let mut line = line_of(rt, failing_at(CHUNKS, failing))?;
+    is_line_begun(rt, way, limits, &mut line)
+}
+
+fn is_line_begun<H: Host>(
+    rt: &H,
+    way: Way,
+    limits: &Limits,
+    line: &mut Memory<Pieces>,
+) -> io::Result<bool> {
+    let (report, _) = serve_by(rt, way, limits, App::Echo, line)?;
+    Ok(report.outcome == Outcome::InputBroke && CHUNKS_ECHOED.starts_with(text_of(line)))
+}
+
+#[test]
+fn a_read_that_fails_in_a_body_leaves_a_beginning_of_its_answer(
+    rt: HostRuntime,
+) -> Result<(), Fail> {
+    let limits = Limits::new(16_384, 64, 1_048_576, 4, 16, 30_000, 1_000_000)?;
+    for way in [Way::Inline, Way::Beside] {
+        for failing in 1..=87 {
+            assert!(rt; is_begun(&rt, way, &limits, failing)?, "read {failing}");
+        }
+    }
+    Ok(())
+}

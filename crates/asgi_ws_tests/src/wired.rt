@@ -290,11 +290,20 @@ fn read_and_sent<L: Line>(line: &mut L, payload: Payload) -> (Kind, Put) {
     (next(line), send(line, payload))
 }
 
-/// Both over a stream that fails.
-fn sent_over_fault(alloc: Global) -> Result<(Kind, Put), AllocError> {
+/// A message of one byte, as it is sent.
+const MESSAGE: &[u8] = b"\x82\x01a";
+
+/// Both, and whether the message is all that was written: a fault of the stream is told to nobody.
+fn read_and_sent_alone(mut line: Wired<Wire>, payload: Payload) -> (Kind, Put, bool) {
+    let (kind, put) = read_and_sent(&mut line, payload);
+    (kind, put, output_of(&line) == MESSAGE)
+}
+
+/// The same over a stream that fails.
+fn sent_over_fault(alloc: Global) -> Result<(Kind, Put, bool), AllocError> {
     let payload = bytes(alloc, b"a")?;
-    let mut line = upgraded_with(alloc, failing(alloc)?, Vec::new(alloc));
-    Ok(read_and_sent(&mut line, payload))
+    let line = upgraded_with(alloc, failing(alloc)?, Vec::new(alloc));
+    Ok(read_and_sent_alone(line, payload))
 }
 
 #[test]
@@ -305,7 +314,7 @@ fn a_client_is_told_why_its_session_fails(rt: HostRuntime) -> Result<(), Fail> {
     }
     // A stream that fails is one too, and still takes what is sent.
     let answers = sent_over_fault(rt.alloc())?;
-    assert_eq!(rt; answers, (Kind::Failed, Put::Done));
+    assert_eq!(rt; answers, (Kind::Failed, Put::Done, true));
     Ok(())
 }
 
