@@ -675,7 +675,8 @@ class Messages(Case):
         import websockets
 
         async def one(port, number):
-            async with websockets.connect(f"ws://127.0.0.1:{port}/", ping_interval=None) as session:
+            how = {"ping_interval": None, "open_timeout": SECONDS, "close_timeout": SECONDS}
+            async with websockets.connect(f"ws://127.0.0.1:{port}/", **how) as session:
                 for turn in range(20):
                     await session.send(f"{number} {turn}")
                     self.assertEqual(await session.recv(), f"{number} {turn}")
@@ -685,10 +686,13 @@ class Messages(Case):
 
         with Served() as served:
             asyncio.run(asyncio.wait_for(all_of(served.port), 4 * SECONDS))
+            # A session can be over before the thread that accepts has said that its program began.
+            with served.began:
+                served.began.wait_for(lambda: len(served.programs) == 8, timeout=SECONDS)
+            self.assertEqual(len(served.programs), 8)
             for program in served.programs:
                 _, errors = program.communicate(timeout=SECONDS)
                 self.assertEqual((program.returncode, errors), (0, b""))
-            self.assertEqual(len(served.programs), 8)
 
 
 def has_client():
