@@ -259,9 +259,30 @@ impl HttpHalf {
         ensures limits { self.new.wire.requests.limits ≡ self.old.wire.requests.limits }
         ensures asked { OnOk result (HasAsked self.new) }
     {
-        if let BodyProgress::Open = self.body {
-            self.body = body_of(self.wire.requests.next()?, self.wire.input);
+        let BodyProgress::Open = self.body else {
+            return Ok(());
+        };
+        if !self.wire.requests.is_waiting() {
+            return self.pull_result();
         }
+        if self.wire.input.has_ended() {
+            self.body = BodyProgress::BrokenOff;
+            return Ok(());
+        }
+        Ok(())
+    }
+
+    /// The body with the reader's next result. Out of line: most calls of `pull` come after a read that completes
+    /// nothing, and a place for a result is dear to clear.
+    #[inline(never)]
+    fn pull_result(&mut self) -> Result<(), AllocError>
+        requires { self.old.body ≡ BodyProgress.Open }
+        ensures same { KeepsBesidesBody self.old self.new }
+        ensures gives { GivesAfter self.old self.new }
+        ensures limits { self.new.wire.requests.limits ≡ self.old.wire.requests.limits }
+        ensures asked { OnOk result (HasAsked self.new) }
+    {
+        self.body = body_of(self.wire.requests.next()?, self.wire.input);
         Ok(())
     }
 

@@ -128,11 +128,16 @@ failing_code (Err (Capacity cause)) = Some why.Size
 failing_code _ = None
 
 module _ {S : Type 0} where
-  -- a close with this code and no reason went out, after what was waiting, or the layer or its stream refused it
+  -- what the layer does with a close of this code and no reason
+  abbrev pub close_step_of : Socket (Tap S) → CloseCode → Result Effect FrameError
+  close_step_of s reason = write_step s.conn (wire.close (Some (reason, [])))
+
+  -- A close with this code and no reason stands behind what was waiting, and went out as far as the stream took it; or nothing changed, since
+  -- there was no room or no memory for it; or the layer sends none in the state that it is in.
   abbrev pub TellsWhy : (Tap S → Option (List ℕ)) → Socket (Tap S) → Socket (Tap S) → Option CloseCode → Type 0
   TellsWhy contents s t None = t ≡ s
-  TellsWhy contents s t (Some reason) = (Writes contents s t (close_step s.conn (Some (reason, []))) × (t.output ≡ []))
-      ⊎ ((e : Error) × WriteFails (close_step s.conn (Some (reason, []))) e × (IsIo e → Writes contents s t (close_step s.conn (Some (reason, [])))))
+  TellsWhy contents s t (Some reason) = Writes contents s t (close_step_of s reason)
+      ⊎ (t ≡ s) ⊎ ((x : FrameError) × (close_step_of s reason ≡ Err x))
 
   -- Each result comes from one `read` of the layer. Where that failed by the client's fault, a close tells why.
   abbrev pub AnswersBy : (remaining contents : Tap S → Option (List ℕ)) → Socket (Tap S) → Socket (Tap S) → Got → Type 0

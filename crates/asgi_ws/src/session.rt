@@ -73,10 +73,10 @@ fn tell_why<S: Stream + Drop>(socket: &mut Session<S>, code: Option<CloseCode>)
     let Some(code) = code else {
         return;
     };
-    let _told = socket.close(Some(CloseFrame {
+    let _told = socket.send(Message::Close(Some(CloseFrame {
         code,
         reason: Utf8Bytes::new(),
-    }));
+    })));
 }
 
 /// Sends a payload. `Failed` if no session has begun or the layer refuses it, `NoMemory` if memory

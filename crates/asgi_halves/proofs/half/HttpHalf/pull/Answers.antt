@@ -1,8 +1,4 @@
-use Rattle.asgi_halves.proofs.HalfBodyLemmas.{gave_next}
 use Rattle.asgi_halves.proofs.half.HttpHalf.pull.Goals as goal
 
-pub returns-in_ok-next-clause-gives : goal.returns-in_ok-next-clause-gives
-returns-in_ok-next-clause-gives c read opened framing arrived events x given ends =
-    let next = c.in_ok-next in
-    let gave = gave_next c.args.self.now.wire.requests c.next.new.self next.field-0 read opened framing arrived events x (rw c.in-Open.is at given) next.ensures.need next.ensures.given in
-    (c.body_of.ensures.gives c.next.new.self read opened framing arrived events (rw c.next.ensures.limits x) gave, c.body_of.ensures.ends_where)
+pub returns-then-not-is_waiting-clause-gives : goal.returns-then-not-is_waiting-clause-gives
+returns-then-not-is_waiting-clause-gives c = rw c.is_waiting.ensures.same at c.pull_result.ensures.gives
