@@ -1,0 +1,6 @@
+pub mod Fields
+pub mod Handling
+pub mod Making
+pub mod Params
+pub mod Replies
+pub mod private

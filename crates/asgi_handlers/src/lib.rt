@@ -1,0 +1,20 @@
+//! Handlers without a state machine: each gets a whole request and gives a whole reply. The
+//! application that calls them is ready.
+#![tactic(auto)]
+
+mod fields;
+mod handled;
+mod handler;
+mod handling;
+mod params;
+mod receiving;
+mod reply;
+mod request;
+mod segments;
+mod sending;
+
+pub use handled::{Handled, HandledTask};
+pub use handler::Handler;
+pub use handling::Handling;
+pub use reply::Reply;
+pub use request::Request;
