@@ -2,7 +2,7 @@
 //! application that calls them is ready.
 #![tactic(auto)]
 
-mod fields;
+mod asking;
 mod handled;
 mod handler;
 mod handling;
@@ -13,6 +13,7 @@ mod request;
 mod segments;
 mod sending;
 
+pub use asking::ask;
 pub use handled::{Handled, HandledTask};
 pub use handler::Handler;
 pub use handling::Handling;
