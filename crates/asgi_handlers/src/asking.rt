@@ -7,9 +7,7 @@ use crate::reply::Reply;
 use crate::request::Request;
 use crate::segments::segments_of;
 use asgi_apps::AppFault;
-use asgi_types::{
-    Asgi, Chars, Extensions, Headers, HttpScope, HttpVersion, Kind, Octets, State,
-};
+use asgi_types::{Asgi, Chars, Extensions, Headers, HttpScope, HttpVersion, Kind, Octets, State};
 use std::alloc::{AllocError, Global};
 
 /// The reply of a handler to a request of this method for this path with this body. The request has

@@ -16,7 +16,7 @@ use futures::task::{Context, Poll};
 use std::alloc::Global;
 
 /// As many bytes as `Limits::usual` lets a body have.
-const USUAL: usize = 1_048_576;
+pub(crate) const USUAL: usize = 1_048_576;
 
 /// The application of a handler. It receives each request whole, calls the handler once, and sends
 /// its reply: a start, and one body. It refuses each session, and in a lifespan scope its call
@@ -89,7 +89,7 @@ impl<H: Copy> Handled<H> {
 }
 
 /// A task that gives what `NotFound` gives in this scope.
-fn deny<H>(alloc: Global, scope: &Scope) -> Result<HandledTask<H>, AppFault>
+pub(crate) fn deny<H>(alloc: Global, scope: &Scope) -> Result<HandledTask<H>, AppFault>
     ensures denies { IfOk result (λ task. IsDenied task scope.now) }
     ensures failed { IsErrOf result AppFault.Failed → kind_of scope.now ≡ kind.Lifespan }
     ensures fault { OnErr result (Answers (not_found_answer scope.now) [] [] (Some Faulted)) }

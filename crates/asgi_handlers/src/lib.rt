@@ -12,6 +12,7 @@ mod reply;
 mod request;
 mod segments;
 mod sending;
+mod shared;
 
 pub use asking::ask;
 pub use handled::{Handled, HandledTask};
@@ -19,3 +20,4 @@ pub use handler::Handler;
 pub use handling::Handling;
 pub use reply::Reply;
 pub use request::Request;
+pub use shared::{Held, Shared};

@@ -1,9 +1,9 @@
 //! What a handler sees of a request, and what comes of what it answers.
 use crate::driver::Ask::{Delete, Get, Lifespan, Mounted, Post, Query, Session};
 use crate::driver::Offered::{Connect, Disconnect, Last, Part};
-use crate::driver::{Ask, Row, check};
+use crate::driver::{Ask, Row, check, is_said};
 use asgi_apps::AppFault;
-use asgi_handlers::{Handled, Handler, Reply, Request};
+use asgi_handlers::{Handled, Handler, Reply, Request, Shared, ask};
 use asgi_types::StateValue;
 use std::test::Fail;
 
@@ -80,6 +80,15 @@ fn a_longer_body_is_a_fault(rt: HostRuntime) -> Result<(), Fail> {
 fn a_borrowed_handler_is_a_handler(rt: HostRuntime) -> Result<(), Fail> {
     let bodies = Bodies;
     check(&rt, Handled::new(&bodies), BODIES)
+}
+
+#[test]
+fn a_shared_handler_is_a_handler(rt: HostRuntime) -> Result<(), Fail> {
+    for row in BODIES {
+        let app = Shared::new(rt.alloc(), Bodies)?;
+        assert!(rt; is_said(&rt, app, *row), "{}", row.2);
+    }
+    Ok(())
 }
 
 /// Fails after the whole body.

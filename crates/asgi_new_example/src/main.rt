@@ -1,4 +1,4 @@
-//! Serves `Items` on a port: `asgi_new_example PORT COUNT`.
+//! Serves `Items` on a port: `asgi_new_example PORT [COUNT]`.
 #![tactic(auto)]
 
 mod items;
@@ -13,10 +13,8 @@ fn main(rt: HostRuntime) -> ExitCode {
     let Some((port, count)) = words_of(&rt) else {
         return usage(&rt);
     };
-    Server::on(port)
-        .connections(count)
-        .log_connections(&rt)
-        .serve(&rt, &Handled::new(Items))
+    let server = Server::on(port).connections(count);
+    server.log_connections(&rt).serve(&rt, &Handled::new(Items))
 }
 
 #[cfg(test)]
