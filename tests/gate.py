@@ -31,6 +31,8 @@ PARTS = [
     ("self-tests of the gate's scripts", ["python3", "tests/chain.py", "--self-test"]),
     ("self-tests of the gate's scripts", ["python3", "tests/instructions.py", "--self-test"]),
     ("self-tests of the gate's scripts", ["python3", "tests/edits_self_test.py"]),
+    ("self-tests of the gate's scripts", ["python3", "tools/progress.py", "--self-test"]),
+    ("self-tests of the gate's scripts", ["python3", "tools/crate.py", "--self-test"]),
     ("edits that can be applied", ["python3", "tests/must_fail.py", "--read"]),
     ("rt ci", CI),
     ("runs with an allocation refused", ["python3", "tests/memory.py"]),

@@ -14,7 +14,8 @@ use asgi_io::{Counts, Pause};
 use asgi_kept::{Napping, Resting};
 use asgi_lifespan::{Lifespan, Start, Stop};
 use asgi_server::{
-    Accepts, BesideStation, End, Listener, Shared, Workers, end_stations, serve_all, stations,
+    Accepts, BesideStation, End, Listener, Nobody, Shared, Workers, end_stations, serve_all,
+    stations,
 };
 use asgi_types::{Limits, State};
 use asgi_ws::Line;
@@ -268,7 +269,9 @@ fn serve_printing<
         workers: list,
         teller,
         end,
-    } = serve_all(rt, limits, state, app, listener, workers, list, printer);
+    } = serve_all(
+        rt, limits, state, app, &Nobody, listener, workers, list, printer,
+    );
     end_stations(list);
     let well = is_well(end, teller.told, listener.failed());
     (well, teller)

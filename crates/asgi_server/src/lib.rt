@@ -3,6 +3,8 @@
 
 mod accepting;
 mod listener;
+mod listening;
+mod on_end;
 mod peers;
 mod serving;
 mod sharing;
@@ -15,6 +17,9 @@ mod waiting;
 pub use asgi_crew::{End, Shared, Teller, Workers};
 pub use asgi_lifespan::{Lifespan, Start, Stop};
 pub use listener::{Accepts, Listener};
+pub use listening::Listening;
+pub use on_end::{Nobody, OnEnd};
+pub use peers::loopback;
 pub use serving::serve_next;
 pub use sharing::serve_all;
 pub use socket::Socket;

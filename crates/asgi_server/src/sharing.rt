@@ -7,6 +7,7 @@ ghost use Rattle.asgi_crew.specs.declared.give.End.TheVariants.{NoThread};
 ghost use Rattle.asgi_server.specs.Connections.{served_by, arrived, IsServed};
 
 use crate::listener::Listener;
+use crate::on_end::OnEnd;
 use crate::serving::serve;
 use crate::station::BesideStation;
 use asgi_apps::{AppTask, Application};
@@ -16,16 +17,18 @@ use asgi_types::{Limits, Peer, State};
 use asgi_ws::Line;
 use std::alloc::AllocGlobal;
 
-/// What all workers borrow: the limits, the state and the application.
+/// What all workers borrow: the limits, the state, the application, and what is called as each connection ends.
 #[derive(Drop)]
-struct Serving<'a, H, A> {
+struct Serving<'a, H, A, E> {
     rt: &'a H,
     limits: &'a Limits,
     state: &'a State,
     app: &'a A,
+    on_end: &'a E,
 }
 
-impl<'a, H, A, N: Listener> Asks<N, (N::L, Option<Peer>, Option<Peer>)> for Serving<'a, H, A> {
+impl<'a, H, A, E, N: Listener> Asks<N, (N::L, Option<Peer>, Option<Peer>)>
+    for Serving<'a, H, A, E> {
     ghost answers = { N.answers };
 
     ghost Source = { List (ℕ × ℕ) };
@@ -43,8 +46,9 @@ impl<
     H: AllocGlobal,
     T: AppTask + Send + 'static,
     A: Application<Task = T>,
+    E: OnEnd,
     L: Line + Drop,
-> Serves<BesideStation<T, R>, (L, Option<Peer>, Option<Peer>)> for Serving<'a, H, A> {
+> Serves<BesideStation<T, R>, (L, Option<Peer>, Option<Peer>)> for Serving<'a, H, A, E> {
     type Report = Report;
 
     ghost serves = { λ how was is given report. served_by L.state (A.answers how.app.now) how.limits.now how.state.now was.pause.count is.pause.count given report };
@@ -55,7 +59,7 @@ impl<
         given: (L, Option<Peer>, Option<Peer>),
     ) -> Report {
         let (line, client, server) = given;
-        serve(
+        let report = serve(
             self.rt,
             self.limits,
             self.state,
@@ -65,13 +69,16 @@ impl<
             &server,
             &mut station.runner,
             &mut station.pause,
-        )
+        );
+        self.on_end.ended(&report, &client);
+        report
     }
 }
 
 /// Serves each connection that the listener gives, as many at the same time as there are workers, each in a thread of
 /// its own with one of these stations. The teller gets each report once, under its connection's number, 1 upwards, in
-/// the order in which the connections were given, and each as soon as all those before it are there.
+/// the order in which the connections were given, and each as soon as all those before it are there. `on_end` is called as
+/// each connection ends, in the thread of its worker.
 ///
 /// A worker serves one connection after another, to its end. A line is dropped once its connection has ended. If a
 /// worker is refused its thread, the listener is not asked (`NoThread`). If memory for one more report is refused, no
@@ -80,6 +87,7 @@ pub fn serve_all<
     H: Host + Sync,
     T: AppTask + Send + 'static,
     A: Application<Task = T> + Send + Sync,
+    E: OnEnd + Send + Sync,
     L: Line + Drop + Send,
     N: Listener<L = L> + Send,
     K: Teller<Report> + Drop + Send,
@@ -88,6 +96,7 @@ pub fn serve_all<
     limits: &Limits,
     state: &State,
     app: &A,
+    on_end: &E,
     listener: &mut N,
     workers: Workers,
     stations: Vec<BesideStation<T, H>>,
@@ -106,6 +115,7 @@ pub fn serve_all<
         limits,
         state,
         app,
+        on_end,
     };
     share(rt, rt.alloc(), &how, listener, stations, teller)
 }

@@ -6,7 +6,7 @@ use asgi_conn::{Host, Line, Outcome, Report};
 use asgi_fakes::texts::SERVER_ERROR;
 use asgi_io::History;
 use asgi_server::{
-    End as Why, Listener, Shared, Teller, Workers, end_stations, serve_all, stations,
+    End as Why, Listener, Nobody, Shared, Teller, Workers, end_stations, serve_all, stations,
 };
 use asgi_types::{Limits, Peer, State};
 use asgi_ws::{Pair, Wired};
@@ -85,14 +85,21 @@ pub fn is_reported(reports: &[(u64, Report)], ends: &[End]) -> bool {
     at == ends.len()
 }
 
-/// Gets reports, and keeps none.
+/// Keeps the reports that it gets, unless memory for one is refused.
 #[derive(Drop)]
-struct Unheard;
+struct Kept {
+    reports: Vec<(u64, Report)>,
+    lacks: bool,
+}
 
-impl Teller<Report> for Unheard {
+impl Teller<Report> for Kept {
     ghost tells = { λ _ _ _ _. Unit {0} };
 
-    fn tell(&mut self, _number: u64, _report: &Report) {}
+    fn tell(&mut self, number: u64, report: &Report) {
+        if self.reports.push((number, *report)).is_err() {
+            self.lacks = true;
+        }
+    }
 }
 
 /// Serves what the listener gives, with this state, by this many workers.
@@ -113,14 +120,21 @@ pub fn serve<
     let Ok(list) = stations::<T, H>(*rt, workers) else {
         return Err(AllocError);
     };
+    let kept = Kept {
+        reports: Vec::new(rt.alloc()),
+        lacks: false,
+    };
     let Shared {
-        reports,
+        reports: _reports,
         workers: list,
-        teller: _teller,
+        teller: kept,
         end,
-    } = serve_all(rt, limits, state, app, listener, workers, list, Unheard);
+    } = serve_all(
+        rt, limits, state, app, &Nobody, listener, workers, list, kept,
+    );
     end_stations(list);
-    if end == Why::Given {
+    let Kept { reports, lacks } = kept;
+    if end == Why::Given && !lacks {
         return Ok(reports);
     }
     Err(AllocError)

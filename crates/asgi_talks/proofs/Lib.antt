@@ -1,0 +1,6 @@
+pub mod BothLemmas
+pub mod HearingLemmas
+pub mod ListLemmas
+pub mod SayingLemmas
+pub mod StepLemmas
+pub mod TaskLemmas

@@ -1,0 +1,6 @@
+pub mod Answering
+pub mod Both
+pub mod Making
+pub mod Sessions
+pub mod Talking
+pub mod private

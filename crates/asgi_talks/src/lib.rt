@@ -1,0 +1,21 @@
+//! WebSocket sessions without a state machine: a talker opens each session, and what it gives
+//! answers the session's messages. The application that calls them is ready.
+#![tactic(auto)]
+
+mod answer;
+mod both;
+mod messages;
+mod opened;
+mod receiving;
+mod sending;
+mod talked;
+mod talker;
+mod talking;
+
+pub use answer::{Answer, Close};
+pub use both::{Both, BothTask};
+pub use messages::Messages;
+pub use opened::Opened;
+pub use talked::{Talked, TalkedTask};
+pub use talker::{Talk, Talker};
+pub use talking::Talking;
