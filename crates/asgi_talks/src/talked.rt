@@ -7,7 +7,8 @@ ghost use Rattle.asgi_apps.specs.Answers.{Answers, not_found_answer};
 ghost use Rattle.asgi_apps.specs.Scopes.{kind_of};
 ghost use Rattle.asgi_talks.specs.Talking.{BeginsIn, IsDenied};
 
-use crate::talker::{Talk, Talker};
+use crate::quiet::{Hushed, Quiet};
+use crate::talker::{Talker, Tells};
 use crate::talking::Talking;
 use asgi_apps::{AppFault, AppTask, Application, NotFound, Says};
 use asgi_pipes::AppEnd;
@@ -45,10 +46,54 @@ impl<T> Talked<T> {
 
 impl<T: Talker + Copy + Drop> Application for Talked<T> {
     ghost use Rattle.asgi_talks.specs.Sessions.{TalkedAnswers};
+    ghost use Rattle.asgi_talks.specs.Quiet.{never, says_nothing};
+
+    type Task = TalkedTask<Hushed<T>, Quiet<T::Session>>;
+
+    ghost answers = { λ app. TalkedAnswers T.opens T.Session.answers says_nothing never app.talker };
+
+    ghost refuses = { λ _ scope. kind_of scope ≡ kind.Lifespan };
+
+    fn call(
+        &self,
+        alloc: Global,
+        scope: &Scope,
+    ) -> Result<TalkedTask<Hushed<T>, Quiet<T::Session>>, AppFault> {
+        match scope {
+            Scope::Http(_) => deny(alloc, scope),
+            Scope::WebSocket(_) => begin(alloc, Hushed::new(self.talker), scope),
+            Scope::Lifespan(_) => Err(AppFault::Failed),
+        }
+    }
+}
+
+/// The application of a talker whose sessions also speak unasked. It does what `Talked` does, and
+/// asks the session in each turn in which no message is there and all before was sent. What it says
+/// is sent whole before the next message is received.
+#[derive(Clone, Copy, Debug)]
+pub struct Told<T> {
+    /// What opens the sessions.
+    pub talker: T,
+}
+
+impl<T> Told<T> {
+    /// The application of this talker.
+    pub fn new(talker: T) -> Self
+        ensures { result.talker ≡ talker }
+    {
+        Told { talker }
+    }
+}
+
+impl<T: Talker + Copy + Drop> Application for Told<T>
+where
+    T::Session: Tells,
+{
+    ghost use Rattle.asgi_talks.specs.Sessions.{TalkedAnswers};
 
     type Task = TalkedTask<T, T::Session>;
 
-    ghost answers = { λ app. TalkedAnswers T.opens T.Session.answers app.talker };
+    ghost answers = { λ app. TalkedAnswers T.opens T.Session.answers T.Session.tells T.Session.fails app.talker };
 
     ghost refuses = { λ _ scope. kind_of scope ≡ kind.Lifespan };
 
@@ -100,12 +145,12 @@ fn deny<T, S>(alloc: Global, scope: &Scope) -> Result<TalkedTask<T, S>, AppFault
     }
 }
 
-impl<T: Talker<Session = S> + Drop, S: Talk> AppTask for TalkedTask<T, S> {
+impl<T: Talker<Session = S> + Drop, S: Tells> AppTask for TalkedTask<T, S> {
     ghost use Rattle.asgi_talks.specs.Talking.{TaskAnswers, TaskStands, task_keeps};
 
-    ghost stands = { TaskStands T.opens S.answers };
+    ghost stands = { TaskStands T.opens S.answers S.tells };
 
-    ghost answers = { TaskAnswers T.opens S.answers };
+    ghost answers = { TaskAnswers T.opens S.answers S.tells S.fails };
 
     fn poll<E: AppEnd>(&mut self, cx: &mut Context<'_>, end: &mut E) -> Poll<Result<(), AppFault>> {
         match self {
@@ -114,5 +159,5 @@ impl<T: Talker<Session = S> + Drop, S: Talk> AppTask for TalkedTask<T, S> {
         }
     }
 
-    ghost keeps = { task_keeps T.opens S.answers };
+    ghost keeps = { task_keeps T.opens S.answers S.tells S.fails };
 }
