@@ -12,6 +12,7 @@ its status, are a part of each test. Expected texts are those of the RFCs and of
 import asyncio
 import base64
 import contextlib
+import errno
 import hashlib
 import http.client
 import os
@@ -140,7 +141,7 @@ def needs(name):
 
 
 class Example(unittest.TestCase):
-    """The program of `crates/asgi_port_example`, as README.md and docs/APPLICATIONS.md have it."""
+    """The program of `crates/asgi_port_example`, as docs/APPLICATIONS.md has it."""
 
     @needs("curl")
     def test_an_application_of_ones_own_is_served_on_a_port(self):
@@ -157,15 +158,24 @@ class Example(unittest.TestCase):
         finally:
             ran.kill()
 
-    def test_the_documents_have_its_application_its_main_and_its_line(self):
-        readme, document = text_of("README.md"), text_of("docs/APPLICATIONS.md")
+    def test_the_document_has_its_application_its_main_and_its_line(self):
+        document = text_of("docs/APPLICATIONS.md")
         folder = "crates/asgi_port_example/src"
         application = re.search(r"^impl Application for .*?^}\n", text_of(f"{folder}/asked.rt"), re.M | re.S)[0]
         body = re.search(r"^fn main\(.*?^}\n", text_of(f"{folder}/main.rt"), re.M | re.S)[0]
         [line] = [line for line in text_of("crates.txt").splitlines(True) if line.startswith("asgi_port_example ")]
-        self.assertIn(f"```rust\n{application}```\n", readme)
-        self.assertIn(f"```rust\n{body}```\n", document)
-        self.assertIn(f"```text\n{line}```\n", document)
+        for text in (f"```rust\n{application}```\n", f"```rust\n{body}```\n", f"```text\n{line}```\n"):
+            self.assertIn(text, document)
+
+
+def log_of(errors):
+    """The lines that a program over `nomtsage` wrote to the log, without what stands before each text and without clients."""
+    return [re.sub(r": \S+ port \d+, ", ": ", line.partition("] ")[2]) for line in errors.splitlines()]
+
+
+def system_error(number):
+    """What the system says of an error, as the toolchain writes it."""
+    return f"{os.strerror(number)} (os error {number})"
 
 
 class Own:
@@ -193,10 +203,9 @@ class Own:
         raise AssertionError(f"no line says where it listens: {self.lines}")
 
     def ended(self):
-        """What it wrote to the log, without what stands before each text and without clients, and its status, once it has ended."""
+        """What it wrote to the log, and its status, once it has ended."""
         _, errors = self.ran.communicate(timeout=SECONDS)
-        lines = [*"".join(self.lines).splitlines(), *errors.decode().splitlines()]
-        return [re.sub(r": \S+ port \d+, ", ": ", line.partition("] ")[2]) for line in lines], self.ran.returncode
+        return log_of("".join(self.lines) + errors.decode()), self.ran.returncode
 
 
 class Library(unittest.TestCase):
@@ -207,13 +216,11 @@ class Library(unittest.TestCase):
             line.sendall(b"GET %s HTTP/1.0\r\n\r\n" % path)
             return read_all(line).partition(b"\r\n\r\n")[2]
 
-    def refused(self, said, status, app="hello", **how):
-        """Asserts that it ends by itself with one line that says this last, and this status."""
+    def refused(self, said, status, app="hello", has_begun=False, **how):
+        """Asserts that it ends by itself with this one line, after the one that says where it listens if it has begun, and with this status."""
         with Own(app, **how) as own:
             lines, found = own.ended()
-            self.assertEqual(found, status)
-            self.assertTrue(lines[-1].startswith(said), lines)
-            self.assertEqual(sum(line.startswith(said) for line in lines), 1)
+            self.assertEqual((lines[-1], len(lines), found), (said, 1 + has_begun, status))
 
     def test_any_free_port_is_told(self):
         with Own("hello") as own:
@@ -250,7 +257,8 @@ class Library(unittest.TestCase):
             address = f"127.0.0.1:{taken.getsockname()[1]}"
             for app in ("hello", "nostart"):
                 with self.subTest(app=app):
-                    self.refused(f"cannot listen on {address}: the port is in use: ", 5, app, address=address)
+                    why = system_error(errno.EADDRINUSE)
+                    self.refused(f"cannot listen on {address}: the port is in use: {why}", 5, app, address=address)
 
     def test_no_right_to_a_port(self):
         with open("/proc/sys/net/ipv4/ip_unprivileged_port_start", encoding="ascii") as it:
@@ -259,13 +267,15 @@ class Library(unittest.TestCase):
         if first <= 1 or not os.access(f"{TOP}/crates", os.X_OK):
             self.skipTest("each port is for everybody here")
         try:
-            self.refused("cannot listen on 127.0.0.1:1: no right to this port: ", 5, address="127.0.0.1:1", **nobody)
+            why = system_error(errno.EACCES)
+            self.refused(f"cannot listen on 127.0.0.1:1: no right to this port: {why}", 5, address="127.0.0.1:1", **nobody)
         except PermissionError as e:
             self.skipTest(f"the program can't be run without rights: {e}")
 
     def test_an_address_that_is_not_ours(self):
         # 192.0.2.0/24 is for documentation (RFC 5737): no machine has such an address.
-        self.refused("cannot listen on 192.0.2.1:8000: the address is not one of this machine: ", 5, address="192.0.2.1:8000")
+        why = system_error(errno.EADDRNOTAVAIL)
+        self.refused(f"cannot listen on 192.0.2.1:8000: the address is not one of this machine: {why}", 5, address="192.0.2.1:8000")
 
     def test_numbers_of_workers_that_are_none(self):
         for workers in (0, 9):
@@ -283,8 +293,22 @@ class Library(unittest.TestCase):
 
     def test_a_start_that_fails(self):
         port = free_port()
-        self.refused("startup failed: no table", 3, "nostart", address=f"127.0.0.1:{port}")
+        self.refused("startup failed: no table", 3, "nostart", has_begun=True, address=f"127.0.0.1:{port}")
         self.assertFalse(listens(port))
+
+    def test_a_start_that_is_not_answered(self):
+        self.refused("startup failed: no answer", 3, "silentstart", has_begun=True)
+
+    def test_a_stop_that_is_not_answered(self):
+        # It serves no connection, so the stop comes right after the start.
+        self.refused("shutdown failed: no answer", 4, "silentstop", has_begun=True, count=0)
+
+    def test_words_that_are_none(self):
+        usage = b"usage: nomtsage_example ADDRESS COUNT WORKERS APP\n"
+        for words in ([], ["127.0.0.1", "1", "1", "hello"], ["127.0.0.1:65536", "1", "1", "hello"], ["127.0.0.1:0", "one", "1", "hello"], ["127.0.0.1:0", "1", "1", "Hello"]):
+            with self.subTest(words=words):
+                status, output, errors = run([f"{TOP}/crates/nomtsage_example/out/nomtsage_example", *words])
+                self.assertEqual((status, output, errors), (2, usage, ""))
 
     def test_a_stop_that_fails(self):
         with Own("nostop") as own:
@@ -338,15 +362,19 @@ class Served:
         self.ran.communicate()
 
     def ended(self):
-        """What it printed, and its status, once it has ended."""
+        """What it printed, what it wrote to the log after the line that says where it listens, and its status, once it has ended."""
         output, errors = self.ran.communicate(timeout=SECONDS)
-        return output.decode().splitlines(), errors.decode(), self.ran.returncode
+        first, *lines = log_of(errors.decode())
+        if first != f"listening on {self.url}":
+            raise AssertionError(f"no line says where it listens: {first}")
+        return output.decode(), lines, self.ran.returncode
 
 
 class Guide(unittest.TestCase):
     """The programs of docs/GUIDE.md: what `make new` makes, and the applications that come after it."""
 
     DOCUMENT = "docs/GUIDE.md"
+    ENDED = ("", [], 0)
 
     def curl(self, served, path="/", *words):
         """The status, the content type and the body that curl gets."""
@@ -358,11 +386,44 @@ class Guide(unittest.TestCase):
 
     @needs("curl")
     def test_a_new_crate_is_served(self):
-        rows = [("/", "200", "hello\n"), ("/items/7", "200", "item 7\n"), ("/items/x", "404", "no such item\n"), ("/x", "404", "no such page\n")]
+        text, json, missing = "text/plain; charset=utf-8", "application/json", ("404", "", "")
+        rows = [(["/"], ("200", text, "hello\n")), (["/items/7"], ("200", json, '{"item":7}')), (["/items/x"], missing), (["/x"], missing)]
+        rows += [(["/items", "-d", "a new item"], ("200", json, '{"length":10}')), (["/", "-X", "DELETE"], missing)]
         with Served("asgi_new_example", len(rows)) as served:
-            for path, status, body in rows:
-                self.assertEqual(self.curl(served, path), (status, "text/plain; charset=utf-8", body))
-            self.assertEqual(served.ended(), (["1 exchanges, finished"] * len(rows), "", 0))
+            for words, wanted in rows:
+                self.assertEqual(self.curl(served, *words), wanted)
+            output, lines, status = served.ended()
+            told = [f"connection {number}: 1 requests, finished" for number in range(1, len(rows) + 1)]
+            self.assertEqual((output, sorted(lines), status), ("", told, 0))
+
+    def test_a_new_crate_without_a_count_serves_on(self):
+        program = f"{TOP}/crates/asgi_new_example/out/asgi_new_example"
+        ran = subprocess.Popen([program, "0"], stdin=subprocess.DEVNULL, stdout=subprocess.PIPE, stderr=subprocess.PIPE)
+        try:
+            url = log_of(ran.stderr.readline().decode())[0].removeprefix("listening on ")
+            for _ in range(3):
+                line = http.client.HTTPConnection(url.removeprefix("http://"), timeout=SECONDS)
+                line.request("HEAD", "/items/7")
+                answer = line.getresponse()
+                self.assertEqual((answer.status, answer.headers["content-length"], answer.read()), (200, "10", b""))
+                line.close()
+            self.assertIsNone(ran.poll())
+        finally:
+            ran.kill()
+            ran.communicate()
+
+    def test_the_readme_has_the_program(self):
+        folder = "crates/asgi_new_example/src"
+        handler = re.search(r"^impl Handler for .*?^}\n", text_of(f"{folder}/items.rt"), re.M | re.S)[0]
+        body = re.search(r"^fn main\(.*?^}\n", text_of(f"{folder}/main.rt"), re.M | re.S)[0]
+        self.assertIn(f"```rust\n{handler}\n{body}```\n", text_of("README.md"))
+
+    @needs("curl")
+    def test_requests_share_a_counter(self):
+        with Served("asgi_guide_example", 3, "counts") as served:
+            for number in (1, 2, 3):
+                self.assertEqual(self.curl(served), ("200", "text/plain; charset=utf-8", f"request {number}\n"))
+            self.assertEqual(served.ended(), self.ENDED)
 
     @needs("curl")
     def test_an_order_is_answered_with_what_it_costs(self):
@@ -372,7 +433,7 @@ class Guide(unittest.TestCase):
         with Served("asgi_guide_example", len(rows), "orders") as served:
             for order, status, body in rows:
                 self.assertEqual(self.curl(served, "/", "--data-binary", order), (status, "application/json", body))
-            self.assertEqual(served.ended(), ([], "", 0))
+            self.assertEqual(served.ended(), self.ENDED)
 
     @needs("curl")
     def test_an_order_may_come_in_pieces(self):
@@ -382,7 +443,7 @@ class Guide(unittest.TestCase):
             file.flush()
             words = ["-H", "Transfer-Encoding: chunked", "--data-binary", f"@{file.name}"]
             self.assertEqual(self.curl(served, "/", *words), ("200", "application/json", '{"cents":75}'))
-            self.assertEqual(served.ended(), ([], "", 0))
+            self.assertEqual(served.ended(), self.ENDED)
 
     def test_a_session_says_each_text_again(self):
         import websockets
@@ -401,21 +462,22 @@ class Guide(unittest.TestCase):
         with Served("asgi_guide_example", 1, "session") as served:
             url = served.url.replace("http", "ws")
             self.assertEqual(asyncio.run(asyncio.wait_for(talk(url), SECONDS)), (1000, "bye"))
-            self.assertEqual(served.ended(), ([], "", 0))
+            self.assertEqual(served.ended(), self.ENDED)
 
     @needs("curl")
     def test_the_state_of_the_start_is_in_each_request(self):
         with Served("asgi_guide_example", 2, "greets") as served:
             for _ in range(2):
                 self.assertEqual(self.curl(served), ("200", "text/plain; charset=utf-8", "good morning\n"))
-            self.assertEqual(served.ended(), ([], "", 0))
+            self.assertEqual(served.ended(), self.ENDED)
 
     def test_a_port_that_is_taken_ends_it(self):
         with socket.create_server(("127.0.0.1", 0)) as taken:
             for name, words in (("asgi_new_example", []), ("asgi_guide_example", ["orders"]), ("asgi_guide_example", ["greets"])):
-                words = [f"{TOP}/crates/{name}/out/{name}", str(taken.getsockname()[1]), "1", *words]
-                done = subprocess.run(words, capture_output=True, timeout=SECONDS, check=False)
-                self.assertEqual((done.returncode, done.stdout, done.stderr), (5, b"", b""))
+                port = taken.getsockname()[1]
+                status, output, errors = run([f"{TOP}/crates/{name}/out/{name}", str(port), "1", *words])
+                said = f"cannot listen on 127.0.0.1:{port}: the port is in use: {system_error(errno.EADDRINUSE)}"
+                self.assertEqual((status, output, log_of(errors)), (5, b"", [said]))
 
     def test_the_guide_has_the_code(self):
         """Each piece of Rust names its file in its first line, and stands in it as it is."""

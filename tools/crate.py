@@ -126,7 +126,7 @@ def new(name, top):
         raise Bad(f"crates.txt can't be written ({error.strerror}), so nothing was made") from error
     return [
         f"made crates/{name}, and its line in crates.txt. Next:",
-        f"  edit crates/{name}/src/items.rt    what each request gets",
+        f"  edit crates/{name}/src/items.rt    what each request gets; src/tests.rt has a row for each",
         f"  make run NAME={name}    runs it without proofs",
         f"  make check NAME={name}    proves it, and builds crates/{name}/out/{name}",
         "docs/GUIDE.md goes on from here.",

@@ -1,11 +1,9 @@
 //! A start, a stop, and a state that each request sees.
-use crate::reply::respond;
-use crate::talk::{Hears, Next, Talk, Then};
-use asgi_apps::{AppFault, Application};
-use asgi_types::{Chars, Incoming, Outgoing, Scope, State, StateError, StateValue};
+use crate::steps::{Hears, Next, Steps, Then};
+use nomtsage::{
+    AppFault, Application, Chars, Incoming, Outgoing, Reply, Scope, State, StateError, StateValue,
+};
 use std::alloc::Global;
-
-const TEXT: &[u8] = b"text/plain; charset=utf-8";
 
 /// The name of the greeting in the state.
 const NAME: &str = "greeting";
@@ -19,14 +17,14 @@ pub struct Greets;
 pub struct Life;
 
 impl Application for Greets {
-    type Task = Talk<Life>;
+    type Task = Steps<Life>;
 
-    fn call(&self, alloc: Global, scope: &Scope) -> Result<Talk<Life>, AppFault> {
+    fn call(&self, alloc: Global, scope: &Scope) -> Result<Steps<Life>, AppFault> {
         match scope {
-            Scope::Lifespan(_) => Ok(Talk::new(alloc, Life, Next::Receives)),
+            Scope::Lifespan(_) => Ok(Steps::new(alloc, Life, Next::Receives)),
             Scope::Http(scope) => {
-                let text = greeting_in(alloc, &scope.state)?;
-                Ok(Talk::new(alloc, Life, respond(alloc, 200, TEXT, text)?))
+                let reply = Reply::text(alloc, greeting_in(&scope.state))?;
+                Ok(Steps::new(alloc, Life, respond(reply)))
             }
             Scope::WebSocket(_) => Err(AppFault::Failed),
         }
@@ -60,10 +58,29 @@ fn started(alloc: Global) -> Result<State, AppFault> {
 }
 
 /// The greeting that the state holds.
-fn greeting_in(alloc: Global, state: &State) -> Result<String, AppFault> {
+fn greeting_in(state: &State) -> &str {
     match state.get(NAME) {
-        Some(StateValue::Text(text)) => Ok(String::from_str(alloc, text.as_str())?),
-        Some(_) => Err(AppFault::Failed),
-        None => Err(AppFault::Failed),
+        Some(StateValue::Text(text)) => text.as_str(),
+        Some(_) => "",
+        None => "",
     }
+}
+
+/// Sends a whole response, and returns.
+fn respond(reply: Reply) -> Next {
+    let Reply {
+        status,
+        headers,
+        body,
+    } = reply;
+    let start = Outgoing::ResponseStart {
+        status,
+        headers,
+        trailers: false,
+    };
+    let last = Outgoing::ResponseBody {
+        body,
+        more_body: false,
+    };
+    Next::Sends(start, Then::Sends(last))
 }

@@ -17,7 +17,7 @@ use Rattle.asgi_handlers.specs.declared.handled.HandledTask.{HandledTask}
 use Rattle.asgi_handlers.specs.declared.handled.HandledTask.TheVariants.{Handles, Denies}
 use Rattle.asgi_handlers.specs.declared.reply.Reply.{Reply}
 use Rattle.asgi_handlers.specs.declared.sending.Sending.{Sending}
-use Rattle.asgi_handlers.specs.Handling.{Begins, BeginsIn, IsDenied, IsHearing, StandsAt, TaskAnswers, TaskStands}
+use Rattle.asgi_handlers.specs.Handling.{Begins, IsDenied, IsHearing, StandsAt, TaskAnswers, TaskStands}
 use Rattle.asgi_handlers.specs.Replies.{AnswersRequest, HandledAnswers}
 use Rattle.asgi_handlers.proofs.HearingLemmas.{failed}
 
@@ -63,21 +63,17 @@ module _ {H F : Type 0} (replies : H → HttpScope → List ℕ → Reply → Ty
   -- ---- what was made in a scope
 
   module _ (made : Result (HandledTask H) F) (scope : Scope) where
-    begun_in : (request : HttpScope) → scope ≡ Http request → IfOk made (λ task. BeginsIn task handler scope)
-        → IfOk made (λ task. Begins task handler request)
-    begun_in request is begins = subst (λ (s : Scope). IfOk made (λ task. BeginsIn task handler s)) is begins
-
-    pub begun_stands : (request : HttpScope) → scope ≡ Http request → IfOk made (λ task. BeginsIn task handler scope)
+    pub begun_stands : (request : HttpScope) → scope ≡ Http request → IfOk made (λ task. Begins task handler request)
         → IfOk made (λ task. TaskStands replies task (kind_of scope) [] [])
     begun_stands request is begins =
-        subst (λ (s : Scope). IfOk made (λ task. TaskStands replies task (kind_of s) [] [])) (sym is) (begun_at made request (begun_in request is begins))
+        subst (λ (s : Scope). IfOk made (λ task. TaskStands replies task (kind_of s) [] [])) (sym is) (begun_at made request begins)
 
-    pub begun_answers : (request : HttpScope) → scope ≡ Http request → IfOk made (λ task. BeginsIn task handler scope)
+    pub begun_answers : (request : HttpScope) → scope ≡ Http request → IfOk made (λ task. Begins task handler request)
         → IfOk made (λ task. (heard : List Incoming) (said : List Outgoing) (ended : Option EndKind) → TaskAnswers replies task heard said ended
         → HandledAnswers replies handler scope heard said ended)
     begun_answers request is begins =
         subst (λ (s : Scope). IfOk made (λ task. (heard : List Incoming) (said : List Outgoing) (ended : Option EndKind) → TaskAnswers replies task heard said ended
-        → HandledAnswers replies handler s heard said ended)) (sym is) (begun_promise made request (begun_in request is begins))
+        → HandledAnswers replies handler s heard said ended)) (sym is) (begun_promise made request begins)
 
     pub begun_fault : (request : HttpScope) → scope ≡ Http request → OnErr made (HandledAnswers replies handler scope [] [] (Some Faulted))
     begun_fault request is =

@@ -7,7 +7,6 @@ use Rattle.asgi_types.specs.declared.scope.Kind.{Kind}
 use Rattle.asgi_types.specs.declared.scope.Kind.TheVariants as kinds
 use Rattle.asgi_types.specs.declared.scope.HttpScope.{HttpScope}
 use Rattle.asgi_types.specs.declared.scope.Scope.{Scope}
-use Rattle.asgi_types.specs.declared.scope.Scope.TheVariants.{Http, WebSocket, Lifespan}
 use Rattle.asgi_types.specs.declared.incoming.Incoming.{Incoming}
 use Rattle.asgi_types.specs.declared.outgoing.Outgoing.{Outgoing}
 use Rattle.asgi_types.specs.declared.end_kind.EndKind.{EndKind}
@@ -85,12 +84,6 @@ module _ {H : Type 0} (replies : H → HttpScope → List ℕ → Reply → Type
 abbrev pub Begins : {H : Type 0} → HandledTask H → H → HttpScope → Type 0
 Begins (Handles task) handler scope = (task.asked.handler ≡ handler) × (task.asked.scope ≡ scope) × (task.body.items ≡ []) × (task.given.items ≡ []) × (task.sending ≡ None)
 Begins (Denies says) handler scope = ⊥
-
--- the same, where the scope is a request's
-abbrev pub BeginsIn : {H : Type 0} → HandledTask H → H → Scope → Type 0
-BeginsIn task handler (Http scope) = Begins task handler scope
-BeginsIn task handler (WebSocket scope) = ⊥
-BeginsIn task handler (Lifespan scope) = ⊥
 
 -- a fresh task that gives what `NotFound` gives in this scope
 abbrev pub IsDenied : {H : Type 0} → HandledTask H → Scope → Type 0

@@ -1,4 +1,3 @@
-pub mod Fields
 pub mod Handling
 pub mod Making
 pub mod Params

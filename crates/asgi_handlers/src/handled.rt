@@ -5,7 +5,7 @@ ghost use Rattle.asgi_types.specs.declared.end_kind.EndKind.TheVariants.{Faulted
 ghost use Rattle.asgi_types.specs.declared.scope.Kind.TheVariants as kind;
 ghost use Rattle.asgi_apps.specs.Answers.{Answers, not_found_answer};
 ghost use Rattle.asgi_apps.specs.Scopes.{kind_of};
-ghost use Rattle.asgi_handlers.specs.Handling.{BeginsIn, IsDenied};
+ghost use Rattle.asgi_handlers.specs.Handling.{Begins, IsDenied};
 
 use crate::handler::Handler;
 use crate::handling::Handling;
@@ -16,7 +16,7 @@ use futures::task::{Context, Poll};
 use std::alloc::Global;
 
 /// As many bytes as `Limits::usual` lets a body have.
-const USUAL: usize = 1_048_576;
+pub(crate) const USUAL: usize = 1_048_576;
 
 /// The application of a handler. It receives each request whole, calls the handler once, and sends
 /// its reply: a start, and one body. It refuses each session, and in a lifespan scope its call
@@ -63,7 +63,7 @@ impl<H: Handler + Copy + Drop> Application for Handled<H> {
 
     fn call(&self, alloc: Global, scope: &Scope) -> Result<HandledTask<H>, AppFault> {
         match scope {
-            Scope::Http(_) => self.begin(alloc, scope),
+            Scope::Http(request) => self.begin(alloc, request),
             Scope::WebSocket(_) => deny(alloc, scope),
             Scope::Lifespan(_) => Err(AppFault::Failed),
         }
@@ -72,37 +72,24 @@ impl<H: Handler + Copy + Drop> Application for Handled<H> {
 
 impl<H: Copy> Handled<H> {
     /// A task that receives the request of this scope. `NoMemory` if memory for its copy is refused.
-    fn begin(&self, alloc: Global, scope: &Scope) -> Result<HandledTask<H>, AppFault>
-        ensures begins { IfOk result (λ task. BeginsIn task self.now.handler scope.now) }
-        ensures failed { IsErrOf result AppFault.Failed → ¬ (kind_of scope.now ≡ kind.Http) }
+    fn begin(&self, alloc: Global, scope: &HttpScope) -> Result<HandledTask<H>, AppFault>
+        ensures begins { IfOk result (λ task. Begins task self.now.handler scope.now) }
+        ensures memory { ¬ (IsErrOf result AppFault.Failed) }
     {
         match scope.copy(alloc) {
-            Ok(copied) => self.begin_with(alloc, copied),
-            Err(e) => Err(AppFault::NoMemory(e)),
-        }
-    }
-
-    /// A task that receives the request of this scope, which is its own. `Failed` if the scope is no
-    /// request's.
-    fn begin_with(&self, alloc: Global, scope: Scope) -> Result<HandledTask<H>, AppFault>
-        ensures begins { IfOk result (λ task. BeginsIn task self.now.handler scope) }
-        ensures failed { IsErrOf result AppFault.Failed → ¬ (kind_of scope ≡ kind.Http) }
-    {
-        match scope {
-            Scope::Http(copied) => Ok(HandledTask::Handles(Handling::new(
+            Ok(copied) => Ok(HandledTask::Handles(Handling::new(
                 alloc,
                 self.handler,
                 copied,
                 self.max_body,
             ))),
-            Scope::WebSocket(_) => Err(AppFault::Failed),
-            Scope::Lifespan(_) => Err(AppFault::Failed),
+            Err(e) => Err(AppFault::NoMemory(e)),
         }
     }
 }
 
 /// A task that gives what `NotFound` gives in this scope.
-fn deny<H>(alloc: Global, scope: &Scope) -> Result<HandledTask<H>, AppFault>
+pub(crate) fn deny<H>(alloc: Global, scope: &Scope) -> Result<HandledTask<H>, AppFault>
     ensures denies { IfOk result (λ task. IsDenied task scope.now) }
     ensures failed { IsErrOf result AppFault.Failed → kind_of scope.now ≡ kind.Lifespan }
     ensures fault { OnErr result (Answers (not_found_answer scope.now) [] [] (Some Faulted)) }

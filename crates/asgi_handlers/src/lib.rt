@@ -2,7 +2,7 @@
 //! application that calls them is ready.
 #![tactic(auto)]
 
-mod fields;
+mod asking;
 mod handled;
 mod handler;
 mod handling;
@@ -12,9 +12,12 @@ mod reply;
 mod request;
 mod segments;
 mod sending;
+mod shared;
 
+pub use asking::ask;
 pub use handled::{Handled, HandledTask};
 pub use handler::Handler;
 pub use handling::Handling;
 pub use reply::Reply;
 pub use request::Request;
+pub use shared::{Held, Shared};

@@ -3,10 +3,9 @@ ghost use Rattle.std.specs.Prelude.{◌≡◌, []};
 ghost use Rattle.std.specs.Option.{option_copied};
 ghost use Rattle.form_urlencoded.specs.Form.{raw_pairs};
 ghost use Rattle.form_urlencoded.specs.Parse.{pairs_left};
-ghost use Rattle.asgi_handlers.specs.Fields.{value_in};
+ghost use Rattle.asgi_types.specs.Named.{value_in};
 ghost use Rattle.asgi_handlers.specs.Params.{param_in, params_of};
 
-use crate::fields::first_value;
 use crate::params::value_of;
 use asgi_types::{HttpScope, Peer, State};
 use form_urlencoded::{Pairs, parse};
@@ -130,12 +129,12 @@ impl<'a> Request<'a> {
         Ok(None)
     }
 
-    /// The value of the first field of that name; `None` if there is none. The name is in lower
-    /// case, as names in a scope are.
+    /// The value of the first field of that name, in any case (RFC 9110, section 5.1); `None` if there
+    /// is none.
     pub fn field(&self, name: &str) -> Option<&[u8]>
         ensures { option_copied result ≡ value_in self.now.scope.now.headers name.now }
     {
-        first_value(&self.scope.headers, name)
+        self.scope.headers.get(name.as_bytes())
     }
 
     /// The client's side of the connection, if it is known.

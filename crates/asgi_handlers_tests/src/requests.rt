@@ -1,9 +1,9 @@
 //! What a handler sees of a request, and what comes of what it answers.
 use crate::driver::Ask::{Delete, Get, Lifespan, Mounted, Post, Query, Session};
 use crate::driver::Offered::{Connect, Disconnect, Last, Part};
-use crate::driver::{Ask, Row, check};
+use crate::driver::{Ask, Row, check, is_said};
 use asgi_apps::AppFault;
-use asgi_handlers::{Handled, Handler, Reply, Request};
+use asgi_handlers::{Handled, Handler, Reply, Request, Shared, ask};
 use asgi_types::StateValue;
 use std::test::Fail;
 
@@ -82,6 +82,15 @@ fn a_borrowed_handler_is_a_handler(rt: HostRuntime) -> Result<(), Fail> {
     check(&rt, Handled::new(&bodies), BODIES)
 }
 
+#[test]
+fn a_shared_handler_is_a_handler(rt: HostRuntime) -> Result<(), Fail> {
+    for row in BODIES {
+        let app = Shared::new(rt.alloc(), Bodies)?;
+        assert!(rt; is_said(&rt, app, *row), "{}", row.2);
+    }
+    Ok(())
+}
+
 /// Fails after the whole body.
 #[derive(Clone, Copy, Debug)]
 struct Fails;
@@ -115,7 +124,8 @@ impl Handler for Sees {
             ("GET", ["items", n]) => Reply::text(alloc, *n),
             ("GET", ["query"]) => query(request),
             ("GET", ["field"]) => field(request, "x-a"),
-            ("GET", ["other"]) => field(request, "x-b"),
+            // A name in any case.
+            ("GET", ["other"]) => field(request, "X-b"),
             ("GET", ["none"]) => field(request, "x-c"),
             ("GET", ["client"]) => client(request),
             ("GET", ["state"]) => state(request),
@@ -247,4 +257,36 @@ const SEEN: &[Row] = &[
 #[test]
 fn a_handler_sees_the_request(rt: HostRuntime) -> Result<(), Fail> {
     check(&rt, Handled::new(Sees), SEEN)
+}
+
+/// The method, the path and the body of a request that is made by hand, and the status and the content
+/// of its reply.
+type AskRow = (&'static str, &'static str, &'static str, u16, &'static str);
+
+const ASKED: &[AskRow] = &[
+    ("GET", "/", "", 200, "home"),
+    ("GET", "/items/7", "", 200, "7"),
+    ("GET", "/path", "", 200, "/path"),
+    ("GET", "/query", "", 400, ""),
+    ("GET", "/field", "", 400, ""),
+    ("GET", "/client", "", 400, ""),
+    ("GET", "/state", "", 400, ""),
+    ("DELETE", "/items/7/", "", 204, ""),
+    ("POST", "/", "abc", 404, ""),
+];
+
+/// Whether a handler that is asked by hand replies so.
+fn is_reply(reply: &Reply, row: &AskRow) -> bool {
+    reply.status == row.3 && reply.body.bytes() == row.4.as_bytes()
+}
+
+#[test]
+fn a_handler_is_asked_by_hand(rt: HostRuntime) -> Result<(), Fail> {
+    for row in ASKED {
+        let reply = ask(rt.alloc(), &Sees, row.0, row.1, row.2.as_bytes())?;
+        assert!(rt; is_reply(&reply, row), "{} {}", row.0, row.1);
+    }
+    let reply = ask(rt.alloc(), &Bodies, "POST", "/", b"abc")?;
+    assert!(rt; is_reply(&reply, &("POST", "/", "abc", 200, "abc")));
+    Ok(())
 }

@@ -14,11 +14,17 @@ pub use asgi_apps::{
     Says, WsEcho,
 };
 pub use asgi_conn::{Host, Outcome, Report};
-pub use asgi_pipes::{AppEnd, EndKind};
+pub use asgi_handlers::{Handled, HandledTask, Handler, Held, Reply, Request, Shared, ask};
+pub use asgi_pipes::{AppEnd, EndKind, Sent};
+pub use asgi_routes::{Chain, Empty, Endpoint, Endpoints, Method, RouteError, Routes};
 pub use asgi_server::{Accepts, Listener, Nobody, OnEnd, Teller, Workers};
+pub use asgi_talks::{
+    Answer, Both, BothTask, Close, Messages, Opened, Talk, Talked, TalkedTask, Talker,
+};
 pub use asgi_types::{
     BadLimit, Chars, HeaderError, Headers, HttpScope, HttpVersion, Incoming, Kind, LifespanScope,
-    Limits, Octets, Outgoing, Payload, Peer, Reason, Scope, State, StateError, StateValue, WsScope,
+    Limits, Names, Octets, Outgoing, Payload, Peer, Reason, Scope, State, StateError, StateValue,
+    WsScope,
 };
 pub use asgi_ws::Line;
 pub use ending::Ending;

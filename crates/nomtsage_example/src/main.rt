@@ -2,10 +2,11 @@
 #![tactic(auto)]
 
 mod ends;
+mod silent;
 mod words;
 
 use ends::Ends;
-use nomtsage::{Hello, Life, Server, Stop};
+use nomtsage::{BadLimit, Hello, Life, Limits, Server, Stop};
 use std::io;
 use std::process::ExitCode;
 use words::{App, usage, words_of};
@@ -25,5 +26,14 @@ fn main(rt: HostRuntime) -> ExitCode {
         App::Ends => server.serve(&rt, &Ends { stop: &stop }),
         App::NoStart => server.serve(&rt, &Life::NoStart),
         App::NoStop => server.serve(&rt, &Life::NoStop),
+        App::Silent(silent) => server.limits(few_turns()).serve(&rt, &silent),
+    }
+}
+
+/// The usual limits, but for 50 idle turns in a row.
+fn few_turns() -> Limits {
+    match Limits::new(16_384, 64, 1_048_576, 16_384, 16, 50, 1 << 40) {
+        Ok(limits) => limits,
+        Err(BadLimit) => Limits::usual(),
     }
 }

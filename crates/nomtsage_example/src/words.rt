@@ -1,4 +1,5 @@
 //! The words of the command line.
+use crate::silent::Silent;
 use std::env;
 use std::io::Write;
 use std::net::SocketAddr;
@@ -12,6 +13,7 @@ pub enum App {
     Ends,
     NoStart,
     NoStop,
+    Silent(Silent),
 }
 
 /// What the words ask for.
@@ -40,19 +42,15 @@ pub fn words_of<H: Env + AllocGlobal>(rt: &H) -> Option<Words> {
 }
 
 fn app_named(name: &str) -> Option<App> {
-    if name == "hello" {
-        return Some(App::Hello);
+    match name {
+        "hello" => Some(App::Hello),
+        "ends" => Some(App::Ends),
+        "nostart" => Some(App::NoStart),
+        "nostop" => Some(App::NoStop),
+        "silentstart" => Some(App::Silent(Silent::Start)),
+        "silentstop" => Some(App::Silent(Silent::Stop)),
+        _ => None,
     }
-    if name == "ends" {
-        return Some(App::Ends);
-    }
-    if name == "nostart" {
-        return Some(App::NoStart);
-    }
-    if name == "nostop" {
-        return Some(App::NoStop);
-    }
-    None
 }
 
 /// Prints how the program is called.

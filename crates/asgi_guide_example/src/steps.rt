@@ -1,8 +1,5 @@
 //! A task that hears one event after another, and sends what comes of each.
-use asgi_apps::{AppFault, AppTask};
-use asgi_pipes::{AppEnd, Sent};
-use asgi_types::{Incoming, Outgoing};
-use futures::task::{Context, Poll};
+use nomtsage::{AppEnd, AppFault, AppTask, Context, Incoming, Outgoing, Poll, Sent};
 use std::alloc::Global;
 use std::mem;
 
@@ -36,20 +33,20 @@ pub trait Hears {
 
 /// The task.
 #[derive(Drop)]
-pub struct Talk<H> {
+pub struct Steps<H> {
     alloc: Global,
     hears: H,
     next: Next,
 }
 
-impl<H> Talk<H> {
+impl<H> Steps<H> {
     /// A task that does this first.
     pub fn new(alloc: Global, hears: H, next: Next) -> Self {
-        Talk { alloc, hears, next }
+        Steps { alloc, hears, next }
     }
 }
 
-impl<H: Hears + Drop> AppTask for Talk<H> {
+impl<H: Hears + Drop> AppTask for Steps<H> {
     fn poll<E: AppEnd>(&mut self, cx: &mut Context<'_>, end: &mut E) -> Poll<Result<(), AppFault>> {
         match mem::replace(&mut self.next, Next::Receives) {
             Next::Receives => {
