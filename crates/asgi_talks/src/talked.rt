@@ -1,11 +1,15 @@
 //! The application of a talker.
-ghost use Rattle.std.specs.Prelude.{◌≡◌, [], IfOk, OnErr, Some};
+ghost use Rattle.std.specs.Prelude.{◌≡◌, List, [], IfOk, OnErr, Option, Some};
 ghost use Rattle.std.specs.Result.{IsErrOf};
+ghost use Rattle.asgi_types.specs.declared.incoming.Incoming.{Incoming};
+ghost use Rattle.asgi_types.specs.declared.outgoing.Outgoing.{Outgoing};
+ghost use Rattle.asgi_types.specs.declared.end_kind.EndKind.{EndKind};
 ghost use Rattle.asgi_types.specs.declared.end_kind.EndKind.TheVariants.{Faulted};
 ghost use Rattle.asgi_types.specs.declared.scope.Kind.TheVariants as kind;
 ghost use Rattle.asgi_apps.specs.Answers.{Answers, not_found_answer};
 ghost use Rattle.asgi_apps.specs.Scopes.{kind_of};
-ghost use Rattle.asgi_talks.specs.Talking.{BeginsIn, IsDenied};
+ghost use Rattle.asgi_talks.specs.Sessions.{TalkedAnswers};
+ghost use Rattle.asgi_talks.specs.Talking.{BeginsIn, IsDenied, TaskAnswers, TaskStands};
 
 use crate::quiet::{Hushed, Quiet};
 use crate::talker::{Talker, Tells};
@@ -45,7 +49,6 @@ impl<T> Talked<T> {
 }
 
 impl<T: Talker + Copy + Drop> Application for Talked<T> {
-    ghost use Rattle.asgi_talks.specs.Sessions.{TalkedAnswers};
     ghost use Rattle.asgi_talks.specs.Quiet.{never, says_nothing};
 
     type Task = TalkedTask<Hushed<T>, Quiet<T::Session>>;
@@ -59,11 +62,7 @@ impl<T: Talker + Copy + Drop> Application for Talked<T> {
         alloc: Global,
         scope: &Scope,
     ) -> Result<TalkedTask<Hushed<T>, Quiet<T::Session>>, AppFault> {
-        match scope {
-            Scope::Http(_) => deny(alloc, scope),
-            Scope::WebSocket(_) => begin(alloc, Hushed::new(self.talker), scope),
-            Scope::Lifespan(_) => Err(AppFault::Failed),
-        }
+        task_of(alloc, Hushed::new(self.talker), scope)
     }
 }
 
@@ -89,8 +88,6 @@ impl<T: Talker + Copy + Drop> Application for Told<T>
 where
     T::Session: Tells,
 {
-    ghost use Rattle.asgi_talks.specs.Sessions.{TalkedAnswers};
-
     type Task = TalkedTask<T, T::Session>;
 
     ghost answers = { λ app. TalkedAnswers T.opens T.Session.answers T.Session.tells T.Session.fails app.talker };
@@ -98,11 +95,28 @@ where
     ghost refuses = { λ _ scope. kind_of scope ≡ kind.Lifespan };
 
     fn call(&self, alloc: Global, scope: &Scope) -> Result<TalkedTask<T, T::Session>, AppFault> {
-        match scope {
-            Scope::Http(_) => deny(alloc, scope),
-            Scope::WebSocket(_) => begin(alloc, self.talker, scope),
-            Scope::Lifespan(_) => Err(AppFault::Failed),
-        }
+        task_of(alloc, self.talker, scope)
+    }
+}
+
+/// The task of the application of this talker in this scope. `NoMemory` if memory for it is refused,
+/// and `Failed` in a lifespan scope.
+fn task_of<T: Talker<Session = S> + Copy + Drop, S: Tells>(
+    alloc: Global,
+    talker: T,
+    scope: &Scope,
+) -> Result<TalkedTask<T, S>, AppFault>
+    ensures stands { IfOk result (λ task. TaskStands T.opens S.answers S.tells task (kind_of scope.now) [] []) }
+    ensures answers { IfOk result (λ task. (heard : List Incoming) (said : List Outgoing) (ended : Option EndKind)
+        → TaskAnswers T.opens S.answers S.tells S.fails task heard said ended
+        → TalkedAnswers T.opens S.answers S.tells S.fails talker scope.now heard said ended) }
+    ensures failed { IsErrOf result AppFault.Failed → kind_of scope.now ≡ kind.Lifespan }
+    ensures fault { OnErr result (TalkedAnswers T.opens S.answers S.tells S.fails talker scope.now [] [] (Some Faulted)) }
+{
+    match scope {
+        Scope::Http(_) => deny(alloc, scope),
+        Scope::WebSocket(_) => begin(alloc, talker, scope),
+        Scope::Lifespan(_) => Err(AppFault::Failed),
     }
 }
 
@@ -146,7 +160,7 @@ fn deny<T, S>(alloc: Global, scope: &Scope) -> Result<TalkedTask<T, S>, AppFault
 }
 
 impl<T: Talker<Session = S> + Drop, S: Tells> AppTask for TalkedTask<T, S> {
-    ghost use Rattle.asgi_talks.specs.Talking.{TaskAnswers, TaskStands, task_keeps};
+    ghost use Rattle.asgi_talks.specs.Talking.{task_keeps};
 
     ghost stands = { TaskStands T.opens S.answers S.tells };
 
