@@ -209,7 +209,7 @@ class Session:
         while not head.endswith(b"\r\n\r\n"):
             head += self.take(1)
         due = base64.b64encode(hashlib.sha1((key + "258EAFA5-E914-47DA-95CA-C5AB0DC85B11").encode()).digest())
-        if not head.startswith(b"HTTP/1.1 101 ") or b"sec-websocket-accept: " + due not in head.replace(b"Sec-WebSocket-A", b"sec-websocket-a"):
+        if not head.startswith(b"HTTP/1.1 101 ") or due not in head:
             raise AssertionError(f"the handshake is answered by {head!r}")
 
     def __enter__(self):
@@ -343,7 +343,8 @@ class Browser:
         self.folder = tempfile.mkdtemp()
         words = ["chromium", "--headless=new", "--no-sandbox", "--disable-gpu", "--disable-dev-shm-usage", "--no-first-run"]
         words += ["--remote-debugging-port=0", f"--user-data-dir={self.folder}", "about:blank"]
-        self.ran = subprocess.Popen(words, stdin=subprocess.DEVNULL, stdout=subprocess.DEVNULL, stderr=subprocess.DEVNULL)
+        pipes = {"stdin": subprocess.DEVNULL, "stdout": subprocess.DEVNULL, "stderr": subprocess.DEVNULL}
+        self.ran = subprocess.Popen(words, env={**os.environ, "HOME": self.folder}, **pipes)
         until = time.monotonic() + SECONDS
         told = f"{self.folder}/DevToolsActivePort"
         while not (os.path.exists(told) and os.path.getsize(told)):
@@ -366,7 +367,9 @@ class Browser:
         asked = urllib.request.Request(f"http://127.0.0.1:{self.port}/json/new?{url}", method="PUT")
         with urllib.request.urlopen(asked, timeout=SECONDS) as answer:
             path = re.search(r"(/devtools/page/[^\"]+)", json.load(answer)["webSocketDebuggerUrl"])[1]
-        return Page(Session(self.port, path))
+        page = Page(Session(self.port, path))
+        page.call("Emulation.setFocusEmulationEnabled", enabled=True)
+        return page
 
 
 class Page:
@@ -401,20 +404,20 @@ class Page:
             self.call("Input.dispatchKeyEvent", type=kind, key="Enter", code="Enter", windowsVirtualKeyCode=13, text="\r")
 
 
-@unittest.skipUnless(shutil.which("chromium") or "--install" in sys.argv, "chromium can't be had")
 class Pages(unittest.TestCase):
     """Two pages of the chat in a browser."""
 
     LINES = "[...document.querySelectorAll('li')].map(it => it.textContent).join('|')"
 
     def test_what_is_typed_in_one_page_is_seen_in_the_other(self):
+        if not shutil.which("chromium"):
+            self.skipTest("chromium can't be had")
         with Program("chat_example", 1000) as served, Browser() as browser:
             pages = [browser.page(f"http://127.0.0.1:{served.port}/") for _ in range(2)]
             for page in pages:
                 page.wait_for("document.readyState === 'complete' && socket.readyState", 1)
             seen = []
             for page, text in ((pages[0], "hello from one"), (pages[1], "<b>and</b> \u20ac from two")):
-                page.call("Page.bringToFront")
                 page.value("document.getElementById('text').focus()")
                 page.type(text)
                 seen.append(text)
@@ -427,16 +430,16 @@ class Pages(unittest.TestCase):
 
 
 def install():
-    """Installs the browser where it is missing, if that can be done."""
-    if shutil.which("chromium") or not shutil.which("apt-get") or os.getuid() != 0:
+    """Installs the browser where it is missing, if it can be had."""
+    if shutil.which("chromium") or not shutil.which("apt-get"):
         return
-    for words in (["update", "-qq"], ["install", "-y", "-qq", "--no-install-recommends", "chromium"]):
-        subprocess.run(["apt-get", *words], stdout=subprocess.DEVNULL, stderr=subprocess.DEVNULL, check=False)
+    how = {"stdout": sys.stderr, "check": False, "env": {**os.environ, "DEBIAN_FRONTEND": "noninteractive"}}
+    subprocess.run(["apt-get", "update", "-qq"], **how)
+    subprocess.run(["apt-get", "install", "-y", "-qq", "--no-install-recommends", "chromium"], **how)
 
 
 def main():
-    if not shutil.which("chromium"):
-        Pages.__unittest_skip__ = True
+    install()
     suite = unittest.defaultTestLoader.loadTestsFromModule(sys.modules[__name__])
     result = unittest.TextTestRunner(stream=sys.stdout, verbosity=2).run(suite)
     failed, skipped = len(result.failures) + len(result.errors), len(result.skipped)

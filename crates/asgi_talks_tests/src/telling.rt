@@ -98,7 +98,7 @@ const SAID: &[Row] = &[
     (ROOT, &[Connect], "accept|idle"),
     (
         ROOT,
-        &[Connect, Text("none"), Text("none"), Text("a")],
+        &[Connect, Text("none"), Text("a")],
         "accept|text a|idle",
     ),
     // A message that is there is heard before anything is said unasked.
