@@ -4,6 +4,7 @@
 
 mod answer;
 mod both;
+pub mod laws;
 mod messages;
 mod opened;
 mod quiet;
