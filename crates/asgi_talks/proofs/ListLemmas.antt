@@ -81,7 +81,7 @@ module _ {S : Type 0} (answers : S → Payload → S → Answer → Type 0) (tel
       → Answered answers tells (given ++ Replied answer ∷ []) (messages ++ message ∷ []) before (session_after answer next)
   answered-append [] messages before message each allowed =
       subst (λ (l : List Payload). Answered answers tells (Replied answer ∷ []) (l ++ message ∷ []) before (session_after answer next)) (sym each.0)
-      (subst (λ (b : Option S). Answered answers tells (Replied answer ∷ []) (message ∷ []) b (session_after answer next)) each.1 (next, allowed, refl, refl))
+      (subst (λ (b : Option S). Answered answers tells (Replied answer ∷ []) (message ∷ []) b (session_after answer next)) each.1 (next, allowed, (refl, refl)))
   answered-append (Replied a ∷ given) (m ∷ messages) (Some s) message each allowed =
       (each.0, each.1, answered-append given messages (session_after a each.0) message each.2 allowed)
   answered-append (Replied a ∷ given) (m ∷ messages) None message each allowed = absurd each
@@ -94,7 +94,7 @@ module _ {S : Type 0} (answers : S → Payload → S → Answer → Type 0) (tel
   pub told-append : (given : List Given) (messages : List Payload) (before : Option S) → Answered answers tells given messages before (Some session)
       → tells session next answer → Answered answers tells (given ++ Unasked answer ∷ []) messages before (session_after answer next)
   told-append [] messages before each allowed =
-      subst (λ (b : Option S). Answered answers tells (Unasked answer ∷ []) messages b (session_after answer next)) each.1 (next, allowed, each.0, refl)
+      subst (λ (b : Option S). Answered answers tells (Unasked answer ∷ []) messages b (session_after answer next)) each.1 (next, allowed, (each.0, refl))
   told-append (Replied a ∷ given) (m ∷ messages) (Some s) each allowed =
       (each.0, each.1, told-append given messages (session_after a each.0) each.2 allowed)
   told-append (Replied a ∷ given) (m ∷ messages) None each allowed = absurd each
