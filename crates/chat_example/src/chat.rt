@@ -43,7 +43,6 @@ impl<R: Wait + Drop> Talk for Member<R> {
 }
 
 impl<R: Wait + Drop> Tells for Member<R> {
-    /// Says the next message, if there is one.
     fn tell(&mut self, alloc: Global) -> Result<Answer, AppFault> {
         let texts = self.chat.texts.lock(&self.chat.rt);
         let Some(text) = texts.get(self.said) else {

@@ -14,7 +14,7 @@ fn main(rt: HostRuntime) -> Result<ExitCode, BadLimit> {
         let _told = println!(rt; "usage: upload_example PORT COUNT");
         return Ok(ExitCode::from(2));
     };
-    // The usual limits, but for bodies of up to 10 MiB, which come in pieces of 64 KiB.
+    // Bodies of up to 10 MiB, in pieces of up to 64 KiB.
     let limits = Limits::new(16_384, 64, 10 << 20, 65_536, 16, 30_000, 1 << 40)?;
     let server = Server::on(port).connections(count).limits(limits);
     Ok(server.log_connections(&rt).serve(&rt, &Upload))

@@ -1,4 +1,4 @@
-//! A task of one's own: it hears a body piece by piece, keeps none of it, and replies with its digest.
+//! A task of one's own that hears a body piece by piece, and replies with its digest.
 use base64::engine::general_purpose::STANDARD;
 use nomtsage::{
     AppEnd, AppFault, AppTask, Application, Context, Headers, Incoming, Kind, Octets, Outgoing,
@@ -6,10 +6,9 @@ use nomtsage::{
 };
 use sha2::{Digest, Sha256};
 use std::alloc::Global;
-use std::mem;
 
 /// Replies to each request with the SHA-256 of its body, in hex, and then with the same in a trailer.
-#[derive(Clone, Copy, Debug)]
+#[derive(Clone, Copy)]
 pub struct Upload;
 
 impl Application for Upload {
@@ -19,16 +18,15 @@ impl Application for Upload {
         let Scope::Http(_) = scope else {
             return Err(AppFault::Failed);
         };
-        let (hasher, reply) = (Sha256::new(), None);
         Ok(Uploading {
             alloc,
-            hasher,
-            reply,
+            hasher: Sha256::new(),
+            reply: None,
         })
     }
 }
 
-/// The body as far as it was heard, by its digest alone, and then the reply.
+/// What was heard of the body, as a digest, and then the reply.
 #[derive(Drop)]
 pub struct Uploading {
     alloc: Global,
@@ -62,8 +60,8 @@ impl Uploading {
         };
         self.hasher.update(body.bytes());
         if !more_body {
-            let hasher = mem::replace(&mut self.hasher, Sha256::new());
-            self.reply = Some(reply_of(self.alloc, &hasher.finalize())?);
+            let digest = std::mem::replace(&mut self.hasher, Sha256::new()).finalize();
+            self.reply = Some(reply_of(self.alloc, &digest)?);
         }
         Ok(true)
     }
