@@ -4,6 +4,7 @@
 
 mod answer;
 mod both;
+mod hosted;
 pub mod laws;
 mod messages;
 mod opened;
@@ -16,6 +17,7 @@ mod talking;
 
 pub use answer::{Answer, Close};
 pub use both::{Both, BothTask};
+pub use hosted::{Hosted, HostedTalker};
 pub use messages::Messages;
 pub use opened::Opened;
 pub use quiet::{Hushed, Quiet};

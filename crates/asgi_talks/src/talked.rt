@@ -121,7 +121,11 @@ fn task_of<T: Talker<Session = S> + Copy + Drop, S: Tells>(
 }
 
 /// A task of the session of this scope. `NoMemory` if memory for its copy is refused.
-fn begin<T: Copy, S>(alloc: Global, talker: T, scope: &Scope) -> Result<TalkedTask<T, S>, AppFault>
+pub fn begin<T: Drop, S>(
+    alloc: Global,
+    talker: T,
+    scope: &Scope,
+) -> Result<TalkedTask<T, S>, AppFault>
     ensures begins { IfOk result (λ task. BeginsIn task talker scope.now) }
     ensures failed { IsErrOf result AppFault.Failed → ¬ (kind_of scope.now ≡ kind.WebSocket) }
 {
@@ -132,7 +136,7 @@ fn begin<T: Copy, S>(alloc: Global, talker: T, scope: &Scope) -> Result<TalkedTa
 }
 
 /// A task of the session of this scope, which is its own. `Failed` if the scope is no session's.
-fn begin_with<T: Copy, S>(
+fn begin_with<T: Drop, S>(
     alloc: Global,
     talker: T,
     scope: Scope,
@@ -148,7 +152,7 @@ fn begin_with<T: Copy, S>(
 }
 
 /// A task that gives what `NotFound` gives in this scope.
-fn deny<T, S>(alloc: Global, scope: &Scope) -> Result<TalkedTask<T, S>, AppFault>
+pub fn deny<T, S>(alloc: Global, scope: &Scope) -> Result<TalkedTask<T, S>, AppFault>
     ensures denies { IfOk result (λ task. IsDenied task scope.now) }
     ensures failed { IsErrOf result AppFault.Failed → kind_of scope.now ≡ kind.Lifespan }
     ensures fault { OnErr result (Answers (not_found_answer scope.now) [] [] (Some Faulted)) }

@@ -4,11 +4,12 @@ ghost use Rattle.std.specs.Prelude.{◌≡◌, ◌+◌};
 use crate::answers::{ANSWERS, Counts, MISSED};
 use crate::driver::Ask::{Lifespan, Session};
 use crate::driver::Offered::{Bytes, Connect, Gone, Text};
-use crate::driver::{Ask, Row, check, check_memory};
+use crate::driver::{Ask, Row, check, check_memory, is_said};
 use asgi_apps::AppFault;
-use asgi_talks::{Answer, Close, Hushed, Opened, Talk, Talker, Tells, Told};
+use asgi_talks::{Answer, Close, Hosted, Hushed, Opened, Talk, Talker, Tells, Told};
 use asgi_types::{Chars, Payload, WsScope};
-use std::alloc::Global;
+use std::alloc::{AllocError, AllocGlobal, Global};
+use std::random::RandomSource;
 use std::test::Fail;
 
 /// Accepts each session.
@@ -140,6 +141,39 @@ fn a_quiet_session_only_answers(rt: HostRuntime) -> Result<(), Fail> {
 #[test]
 fn memory_for_what_is_said_unasked(rt: HostRuntime) -> Result<(), Fail> {
     check_memory(&rt, Told::new(Later), &[TOLD, CLOSED, MISSED])
+}
+
+/// Whether the talker sends what the row holds if its tasks share it: at the first try, or at the second one.
+fn is_hosted<R: RandomSource + AllocGlobal>(rt: &R, row: Row) -> Result<bool, AllocError> {
+    if is_said(rt, Hosted::new(rt.alloc(), Later)?, row) {
+        return Ok(true);
+    }
+    Ok(is_said(rt, Hosted::new(rt.alloc(), Later)?, row))
+}
+
+#[test]
+fn a_hosted_talker_is_a_talker(rt: HostRuntime) -> Result<(), Fail> {
+    for row in SAID {
+        let app = Hosted::new(rt.alloc(), Later)?;
+        assert!(rt; is_said(&rt, app, *row), "{}", row.2);
+    }
+    for row in ANSWERS {
+        let app = Hosted::new(rt.alloc(), Hushed::new(Counts))?;
+        assert!(rt; is_said(&rt, app, *row), "{}", row.2);
+    }
+    Ok(())
+}
+
+#[test]
+fn memory_for_a_hosted_talker(rt: HostRuntime) -> Result<(), Fail> {
+    for row in [TOLD, CLOSED, MISSED] {
+        let said = match is_hosted(&rt, row) {
+            Ok(said) => said,
+            Err(_) => is_hosted(&rt, row)?,
+        };
+        assert!(rt; said, "{}", row.2);
+    }
+    Ok(())
 }
 
 /// Accepts each session, and promises how it counts.

@@ -2,13 +2,13 @@
 use asgi_talks::Tells;
 use nomtsage::{Answer, AppFault, Chars, Opened, Payload, Talk, Talker, WsScope};
 use std::alloc::Global;
-use std::sync::{Mutex, Wait};
+use std::sync::{Arc, Mutex, Wait};
 
-/// What all sessions share: the messages so far, behind a lock.
-#[derive(Clone, Copy)]
+/// What opens the sessions, which share the messages so far, behind a lock.
+#[derive(Drop)]
 pub struct Chat<R> {
     pub rt: R,
-    pub texts: &'static Mutex<Vec<Chars>>,
+    pub texts: Arc<Mutex<Vec<Chars>>, Global>,
 }
 
 /// One session, and how many of the messages it has said.
@@ -22,13 +22,13 @@ impl<R: Wait + Copy + Drop> Talker for Chat<R> {
     type Session = Member<R>;
 
     fn open(&self, alloc: Global, _scope: &WsScope) -> Result<Opened<Member<R>>, AppFault> {
-        let chat = *self;
+        let (rt, texts) = (self.rt, Arc::try_clone(&self.texts)?);
+        let chat = Chat { rt, texts };
         Ok(Opened::accept(alloc, Member { chat, said: 0 }))
     }
 }
 
 impl<R: Wait + Drop> Talk for Member<R> {
-    /// Adds the message to those that all sessions say, of which 10,000 of 1,000 bytes are kept.
     fn hear(&mut self, alloc: Global, message: Payload) -> Result<Answer, AppFault> {
         let Payload::Text(text) = message else {
             return Ok(Answer::closing(alloc, 1003, "texts only")?);

@@ -4,7 +4,7 @@
 mod chat;
 mod page;
 
-use asgi_talks::Told;
+use asgi_talks::Hosted;
 use chat::Chat;
 use nomtsage::{Both, Handled, Server};
 use page::Page;
@@ -12,19 +12,18 @@ use std::alloc::AllocError;
 use std::env;
 use std::process::ExitCode;
 use std::rt::Env;
-use std::sync::Mutex;
+use std::sync::{Arc, Mutex};
 
 fn main(rt: HostRuntime) -> Result<ExitCode, AllocError> {
     let Some((port, count)) = words_of(&rt) else {
         let _told = println!(rt; "usage: chat_example PORT COUNT");
         return Ok(ExitCode::from(2));
     };
-    // A session may outlast whatever `main` lends, so what all sessions share is never freed.
-    let texts = Mutex::new(Vec::new(rt.alloc()));
-    let texts = Box::leak(Box::new(rt.alloc(), texts)?);
+    let alloc = rt.alloc();
+    let texts = Arc::new(alloc, Mutex::new(Vec::new(alloc)))?;
     let app = Both {
         http: Handled::new(Page),
-        ws: Told::new(Chat { rt, texts }),
+        ws: Hosted::new(alloc, Chat { rt, texts })?,
     };
     let server = Server::on(port).workers(8).connections(count);
     Ok(server.log_connections(&rt).serve(&rt, &app))
