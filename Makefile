@@ -4,7 +4,7 @@
 demo:
 	@tests/demo
 
-# Makes a crate of your own, with an application, a main and a test (docs/GUIDE.md): make new NAME=shop
+# Makes a crate of your own, with a handler, a main and a test (docs/GUIDE.md): make new NAME=shop
 new:
 	@python3 tools/crate.py new "$(NAME)"
 

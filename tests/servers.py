@@ -310,6 +310,20 @@ class Library(unittest.TestCase):
                 status, output, errors = run([f"{TOP}/crates/nomtsage_example/out/nomtsage_example", *words])
                 self.assertEqual((status, output, errors), (2, usage, ""))
 
+    def test_a_handler_that_fails(self):
+        # Its connection ends, and no other one.
+        failed = b"HTTP/1.1 500 Internal Server Error\r\ncontent-length: 0\r\nconnection: close\r\n\r\n"
+        with Own("fails", count=2) as own:
+            port = own.port()
+            with socket.create_connection(("127.0.0.1", port), timeout=SECONDS) as line:
+                line.sendall(b"GET /fail HTTP/1.1\r\nHost: a\r\n\r\n" + GET)
+                self.assertEqual(read_all(line), failed)
+            with socket.create_connection(("127.0.0.1", port), timeout=SECONDS) as line:
+                line.sendall(b"GET / HTTP/1.0\r\n\r\n")
+                self.assertTrue(read_all(line).startswith(b"HTTP/1.1 204 No Content\r\n"))
+            told, status = own.ended()
+            self.assertEqual((sorted(told[1:]), status), ([f"connection {number}: 1 requests, finished" for number in (1, 2)], 0))
+
     def test_a_stop_that_fails(self):
         with Own("nostop") as own:
             self.get(own.port(), b"/")
@@ -443,6 +457,14 @@ class Guide(unittest.TestCase):
             file.flush()
             words = ["-H", "Transfer-Encoding: chunked", "--data-binary", f"@{file.name}"]
             self.assertEqual(self.curl(served, "/", *words), ("200", "application/json", '{"cents":75}'))
+            self.assertEqual(served.ended(), self.ENDED)
+
+    @needs("curl")
+    def test_an_order_that_is_too_long_is_refused(self):
+        with tempfile.NamedTemporaryFile("w") as file, Served("asgi_guide_example", 1, "orders") as served:
+            file.write('{"count": 3' + " " * (1 << 20) + "}")
+            file.flush()
+            self.assertEqual(self.curl(served, "/", "--data-binary", f"@{file.name}"), ("413", "", ""))
             self.assertEqual(served.ended(), self.ENDED)
 
     def test_a_session_says_each_text_again(self):

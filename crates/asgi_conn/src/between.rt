@@ -2,7 +2,7 @@
 ghost use Rattle.std.specs.Prelude.{◌≡◌, ◌≢◌, ◌⊎◌, ◌↔◌, ◌++◌, ◌+◌, ℕ, List, length, Option, true, IsTrue, IfOk};
 ghost use Rattle.asgi_types.specs.declared.limits.Limits.{Limits};
 ghost use Rattle.asgi_request.specs.declared.next.Next.{Next};
-ghost use Rattle.asgi_request.specs.Reading.{AllGiven, IsWaiting};
+ghost use Rattle.asgi_request.specs.Reading.{AllGiven, IsWaiting, StandsFor};
 ghost use Rattle.asgi_response.specs.Exchange.{refusal_text};
 ghost use Rattle.asgi_response.specs.Refusals.{is_refusal};
 ghost use Rattle.asgi_conversation.specs.After.{IsBlank};
@@ -28,6 +28,17 @@ use asgi_ws::Line;
 use std::alloc::{AllocError, Global};
 
 impl<X> Connection<X> {
+    /// Whether the reader needs more bytes for its next result. It is asked first, since most reads of a
+    /// head that comes in pieces complete nothing, and a result is dear to make, whatever it says.
+    pub(crate) fn needs_more(&mut self) -> bool
+        ensures waits { IsTrue result → IsWaiting self.old.half.wire.requests }
+        ensures all { IsTrue result → (read : List ℕ) (given : List Next) → StandsFor self.old.half.wire.requests read given
+            → AllGiven self.old.half.wire.requests read given }
+        ensures same { self.new ≡ self.old }
+    {
+        self.half.wire.requests.is_waiting()
+    }
+
     /// Asks the reader for its next result, and does what that calls for and takes no turn.
     pub(crate) fn next<A: Application, L: Line, U: Runner<A::Task, Exchange = X>>(
         &mut self,
@@ -73,7 +84,7 @@ impl<X> Connection<X> {
     }
 
     /// Stays where it is if more bytes are needed, or goes to its end at the end of the input or at a limit on turns.
-    fn wait(&mut self)
+    pub(crate) fn wait(&mut self)
         requires between { IsBetween (place_of self.old) }
         requires waits { IsWaiting self.old.half.wire.requests }
         ensures waits { (limits : Limits) (start now : LineState) (read : List ℕ) (given : List Next) (exchanges : List ExchangeRecord) (after written : List ℕ)

@@ -19,6 +19,8 @@ use asgi_run::Runner;
 
 impl<X> Connection<X> {
     /// Ends an exchange that is over, or for which a limit on turns is reached: then it is given up.
+    /// Inlined, since it is asked before each turn, and mostly has nothing to do.
+    #[inline(always)]
     pub(crate) fn finish<A: Application, U: Runner<A::Task, Exchange = X>>(
         &mut self,
         setting: &Setting<'_>,

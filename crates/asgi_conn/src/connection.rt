@@ -178,6 +178,9 @@ impl<X> Connection<X> {
         if !self.is_between() {
             return;
         }
+        if self.needs_more() {
+            return self.wait();
+        }
         self.next(setting, calls, line, runner);
         self.finish::<A, U>(setting, runner);
     }

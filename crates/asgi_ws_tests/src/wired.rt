@@ -253,10 +253,10 @@ fn pings_and_pongs_are_messages(rt: HostRuntime) -> Result<(), Fail> {
 }
 
 /// What a client sends by its own fault, and what tells it why (RFC 6455, section 7.4.1): a frame without a mask (section
-/// 5.1), a ping of 126 bytes (5.5), text that isn't UTF-8 (5.6), and the header of a frame over 16 MiB.
+/// 5.1), a ping that is not its last fragment (5.5), text that isn't UTF-8 (5.6), and the header of a frame over 16 MiB.
 const FAULTS: &[(&[u8], &[u8])] = &[
     (b"\x81\x01a", b"\x88\x02\x03\xea"),
-    (b"\x89\xfe\x00\x7e", b"\x88\x02\x03\xea"),
+    (b"\x09\x80\0\0\0\0", b"\x88\x02\x03\xea"),
     (b"\x81\x81\0\0\0\0\xff", b"\x88\x02\x03\xef"),
     (b"\x82\xff\0\0\0\0\x01\0\0\x01\0\0\0\0", b"\x88\x02\x03\xf1"),
 ];

@@ -2,11 +2,13 @@
 #![tactic(auto)]
 
 mod ends;
+mod fails;
 mod silent;
 mod words;
 
 use ends::Ends;
-use nomtsage::{BadLimit, Hello, Life, Limits, Server, Stop};
+use fails::Fails;
+use nomtsage::{BadLimit, Handled, Hello, Life, Limits, Server, Stop};
 use std::io;
 use std::process::ExitCode;
 use words::{App, usage, words_of};
@@ -24,6 +26,7 @@ fn main(rt: HostRuntime) -> ExitCode {
     match words.app {
         App::Hello => server.serve(&rt, &Hello),
         App::Ends => server.serve(&rt, &Ends { stop: &stop }),
+        App::Fails => server.serve(&rt, &Handled::new(Fails)),
         App::NoStart => server.serve(&rt, &Life::NoStart),
         App::NoStop => server.serve(&rt, &Life::NoStop),
         App::Silent(silent) => server.limits(few_turns()).serve(&rt, &silent),

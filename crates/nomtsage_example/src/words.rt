@@ -11,6 +11,7 @@ use std::rt::Env;
 pub enum App {
     Hello,
     Ends,
+    Fails,
     NoStart,
     NoStop,
     Silent(Silent),
@@ -45,6 +46,7 @@ fn app_named(name: &str) -> Option<App> {
     match name {
         "hello" => Some(App::Hello),
         "ends" => Some(App::Ends),
+        "fails" => Some(App::Fails),
         "nostart" => Some(App::NoStart),
         "nostop" => Some(App::NoStop),
         "silentstart" => Some(App::Silent(Silent::Start)),
