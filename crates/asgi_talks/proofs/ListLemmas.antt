@@ -1,6 +1,6 @@
 -- The lists of a session grow with what is received, and with each answer.
 use Rattle.std.proofs.Common.{◌≡◌, Bool, true, false, List, [], ◌∷◌, ◌++◌, Option, Some, None, refl, ap, sym, ◌∙◌, subst, append-nil, append_assoc}
-use Rattle.std.specs.Prelude.{◌||◌}
+use Rattle.std.specs.Prelude.{◌||◌, map}
 use Rattle.std.specs.List.{list_any}
 use Rattle.asgi_types.specs.declared.incoming.Payload.{Payload}
 use Rattle.asgi_types.specs.declared.incoming.Incoming.{Incoming}
@@ -11,7 +11,7 @@ use Rattle.asgi_apps.proofs.WsEchoLemmas.{connect-append}
 use Rattle.asgi_talks.specs.declared.answer.Answer.{Answer}
 use Rattle.asgi_talks.specs.declared.opened.Opened.{Opened}
 use Rattle.asgi_talks.specs.Answering.{answer_events, events_of, opening_events, session_after}
-use Rattle.asgi_talks.specs.Sessions.{Answered, but_last, due, due_before, messages_of, payloads_of}
+use Rattle.asgi_talks.specs.Sessions.{Answered, Given, Replied, Unasked, answer_in, but_last, due, due_before, messages_of, payloads_of}
 
 -- ---- "Connect"
 
@@ -72,36 +72,55 @@ messages-opens (WsDisconnect c r ∷ heard) h = messages-opens heard h
 messages-opens (LifespanStartup ∷ heard) h = messages-opens heard h
 messages-opens (LifespanShutdown ∷ heard) h = messages-opens heard h
 
--- ---- answers
+-- ---- turns
 
-pub answered-append : {S : Type 0} (answers : S → Payload → S → Answer → Type 0) (messages : List Payload) (given : List Answer) (before : Option S) (session : S)
-    (message : Payload) (next : S) (answer : Answer) → Answered answers messages given before (Some session) → answers session message next answer
-    → Answered answers (messages ++ message ∷ []) (given ++ answer ∷ []) before (session_after answer next)
-answered-append {S} answers [] [] before session message next answer each allowed =
-    subst (λ (b : Option S). Answered answers (message ∷ []) (answer ∷ []) b (session_after answer next)) each (next, allowed, refl)
-answered-append answers (m ∷ messages) (a ∷ given) (Some s) session message next answer each allowed =
-    (each.0, each.1, answered-append answers messages given (session_after a each.0) session message next answer each.2 allowed)
-answered-append answers (m ∷ messages) (a ∷ given) None session message next answer each allowed = absurd each
-answered-append answers [] (a ∷ given) before session message next answer each allowed = absurd each
-answered-append answers (m ∷ messages) [] before session message next answer each allowed = absurd each
+module _ {S : Type 0} (answers : S → Payload → S → Answer → Type 0) (tells : S → S → Answer → Type 0) (session : S) (next : S) (answer : Answer) where
+  -- one more message was answered
+  pub answered-append : (given : List Given) (messages : List Payload) (before : Option S) (message : Payload) → Answered answers tells given messages before (Some session)
+      → answers session message next answer
+      → Answered answers tells (given ++ Replied answer ∷ []) (messages ++ message ∷ []) before (session_after answer next)
+  answered-append [] messages before message each allowed =
+      subst (λ (l : List Payload). Answered answers tells (Replied answer ∷ []) (l ++ message ∷ []) before (session_after answer next)) (sym each.0)
+      (subst (λ (b : Option S). Answered answers tells (Replied answer ∷ []) (message ∷ []) b (session_after answer next)) each.1 (next, allowed, (refl, refl)))
+  answered-append (Replied a ∷ given) (m ∷ messages) (Some s) message each allowed =
+      (each.0, each.1, answered-append given messages (session_after a each.0) message each.2 allowed)
+  answered-append (Replied a ∷ given) (m ∷ messages) None message each allowed = absurd each
+  answered-append (Replied a ∷ given) [] before message each allowed = absurd each
+  answered-append (Unasked a ∷ given) messages (Some s) message each allowed =
+      (each.0, each.1, answered-append given messages (session_after a each.0) message each.2 allowed)
+  answered-append (Unasked a ∷ given) messages None message each allowed = absurd each
 
-events-append : (given : List Answer) (answer : Answer) → events_of (given ++ answer ∷ []) ≡ events_of given ++ answer_events answer
-events-append [] answer = append-nil (answer_events answer)
-events-append (x ∷ given) answer =
-    ap (λ (l : List Outgoing). answer_events x ++ l) (events-append given answer) ∙ sym (append_assoc (answer_events x) (events_of given) (answer_events answer))
+  -- something more was said unasked
+  pub told-append : (given : List Given) (messages : List Payload) (before : Option S) → Answered answers tells given messages before (Some session)
+      → tells session next answer → Answered answers tells (given ++ Unasked answer ∷ []) messages before (session_after answer next)
+  told-append [] messages before each allowed =
+      subst (λ (b : Option S). Answered answers tells (Unasked answer ∷ []) messages b (session_after answer next)) each.1 (next, allowed, (each.0, refl))
+  told-append (Replied a ∷ given) (m ∷ messages) (Some s) each allowed =
+      (each.0, each.1, told-append given messages (session_after a each.0) each.2 allowed)
+  told-append (Replied a ∷ given) (m ∷ messages) None each allowed = absurd each
+  told-append (Replied a ∷ given) [] before each allowed = absurd each
+  told-append (Unasked a ∷ given) messages (Some s) each allowed =
+      (each.0, each.1, told-append given messages (session_after a each.0) each.2 allowed)
+  told-append (Unasked a ∷ given) messages None each allowed = absurd each
 
-but_last-append : (given : List Answer) (answer : Answer) → but_last (given ++ answer ∷ []) ≡ given
-but_last-append [] answer = refl
-but_last-append (x ∷ []) answer = refl
-but_last-append (x ∷ y ∷ given) answer = ap (λ (l : List Answer). x ∷ l) (but_last-append (y ∷ given) answer)
+events-append : (given : List Given) (turn : Given) → events_of (map answer_in (given ++ turn ∷ [])) ≡ events_of (map answer_in given) ++ answer_events (answer_in turn)
+events-append [] turn = append-nil (answer_events (answer_in turn))
+events-append (x ∷ given) turn =
+    ap (λ (l : List Outgoing). answer_events (answer_in x) ++ l) (events-append given turn)
+    ∙ sym (append_assoc (answer_events (answer_in x)) (events_of (map answer_in given)) (answer_events (answer_in turn)))
+
+but_last-append : (given : List Given) (turn : Given) → but_last (given ++ turn ∷ []) ≡ given
+but_last-append [] turn = refl
+but_last-append (x ∷ []) turn = refl
+but_last-append (x ∷ y ∷ given) turn = ap (λ (l : List Given). x ∷ l) (but_last-append (y ∷ given) turn)
 
 module _ {S : Type 0} (opened : Opened S) where
-  pub due-append : (given : List Answer) (answer : Answer) → due opened (given ++ answer ∷ []) ≡ due opened given ++ answer_events answer
-  due-append given answer =
-      ap (λ (l : List Outgoing). opening_events opened ++ l) (events-append given answer)
-      ∙ sym (append_assoc (opening_events opened) (events_of given) (answer_events answer))
+  pub due-append : (given : List Given) (turn : Given) → due opened (given ++ turn ∷ []) ≡ due opened given ++ answer_events (answer_in turn)
+  due-append given turn =
+      ap (λ (l : List Outgoing). opening_events opened ++ l) (events-append given turn)
+      ∙ sym (append_assoc (opening_events opened) (events_of (map answer_in given)) (answer_events (answer_in turn)))
 
-  -- all before the last answer is what was due without it
-  pub due_before-append : (given : List Answer) (answer : Answer) → due_before opened (given ++ answer ∷ []) ≡ due opened given
-  due_before-append [] answer = refl
-  due_before-append (x ∷ given) answer = ap (λ (l : List Answer). due opened l) (but_last-append (x ∷ given) answer)
+  -- all before the last turn is what was due without it
+  pub due_before-append : (given : List Given) (turn : Given) → due_before opened (given ++ turn ∷ []) ≡ due opened given
+  due_before-append [] turn = refl
+  due_before-append (x ∷ given) turn = ap (λ (l : List Given). due opened l) (but_last-append (x ∷ given) turn)

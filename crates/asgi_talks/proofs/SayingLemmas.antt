@@ -52,13 +52,13 @@ not_lawful kind facts events said rest heard event session connected split refus
     refused (subst (λ (disconnected : Bool). verdict_on kind facts said disconnected event ≡ Pass) (sym connected)
     ((lawful_where_each_passes kind facts events).0 (subst (λ (k : Kind). IsLawful k facts events) (sym session) (lawful facts)) said rest event split))
 
-module _ {S : Type 0} (opens : Opened S → Type 0) (answers : S → Payload → S → Answer → Type 0) (session : Option S) (left : List Outgoing) (called : List (Opened S)) (kind : Kind)
-    (heard hears : List Incoming) (said after : List Outgoing) (same : hears ≡ heard) (stands : IsInTurn opens answers session left called kind heard said) where
+module _ {S : Type 0} (opens : Opened S → Type 0) (answers : S → Payload → S → Answer → Type 0) (tells : S → S → Answer → Type 0) (fails : S → Type 0) (session : Option S)
+    (left : List Outgoing) (called : List (Opened S)) (kind : Kind) (heard hears : List Incoming) (said after : List Outgoing) (same : hears ≡ heard) (stands : IsInTurn opens answers tells session left called kind heard said) where
   -- this is left
   pub said_on : (kind2 : Kind) (left2 : List Outgoing) → kind2 ≡ kind → IsPrefix said after → after ++ left2 ≡ said ++ left
-      → IsInTurn opens answers session left2 called kind2 hears after
+      → IsInTurn opens answers tells session left2 called kind2 hears after
   said_on kind2 left2 k grows put =
-      let on : IsInTurn opens answers session left2 called kind2 heard after = record {
+      let on : IsInTurn opens answers tells session left2 called kind2 heard after = record {
         kind_is = k ∙ stands.kind_is;
         gone = stands.gone;
         answered = stands.answered;
@@ -66,28 +66,28 @@ module _ {S : Type 0} (opens : Opened S → Type 0) (answers : S → Payload →
         in_order = put ∙ stands.in_order;
         in_turn = prefix_trans (due_before stands.answered.opened stands.answered.given) said after stands.in_turn grows;
       } in
-      subst (λ (l : List Incoming). IsInTurn opens answers session left2 called kind2 l after) (sym same) on
+      subst (λ (l : List Incoming). IsInTurn opens answers tells session left2 called kind2 l after) (sym same) on
 
   -- all was sent, and the session goes on
-  pub said_whole : (kind2 : Kind) → kind2 ≡ kind → IsPrefix said after → after ≡ said ++ left → IsInTurn opens answers session [] called kind2 hears after
+  pub said_whole : (kind2 : Kind) → kind2 ≡ kind → IsPrefix said after → after ≡ said ++ left → IsInTurn opens answers tells session [] called kind2 hears after
   said_whole kind2 k grows put = said_on kind2 [] k grows (append-nil after ∙ put)
 
   -- or it is over
-  pub said_last : session ≡ None → after ≡ said ++ left → AnswersSession opens answers hears after (Some Returned)
+  pub said_last : session ≡ None → after ≡ said ++ left → AnswersSession opens answers tells fails hears after (Some Returned)
   said_last over put =
-      let all : HasSaidAll opens answers heard after session = record { answered = stands.answered; all = put ∙ stands.in_order } in
-      let talked : HasTalked opens answers heard after = record { session = session; said_all = all; over = inl over } in
-      inr (subst (λ (l : List Incoming). HasTalked opens answers l after) (sym same) talked)
+      let all : HasSaidAll opens answers tells heard after session = record { answered = stands.answered; all = put ∙ stands.in_order } in
+      let talked : HasTalked opens answers tells heard after = record { session = session; said_all = all; over = inl over } in
+      inr (subst (λ (l : List Incoming). HasTalked opens answers tells l after) (sym same) talked)
 
   -- the next event was turned away
-  pub turned_away : (facts : Facts) → NotTaken kind facts heard said left after → AnswersSession opens answers hears after (Some Faulted)
+  pub turned_away : (facts : Facts) → NotTaken kind facts heard said left after → AnswersSession opens answers tells fails hears after (Some Faulted)
   turned_away facts is =
       let split : due stands.answered.opened stands.answered.given ≡ said ++ is.event ∷ is.rest =
       sym stands.in_order ∙ ap (λ (l : List Outgoing). said ++ l) is.next in
-      let turned : IsTurnedAway opens answers heard after = record {
+      let turned : IsTurnedAway opens answers tells heard after = record {
         session = session;
         answered = stands.answered;
         begins = (left, ap (λ (l : List Outgoing). l ++ left) is.same ∙ stands.in_order);
         unlawful = not_lawful kind facts (due stands.answered.opened stands.answered.given) said is.rest heard is.event stands.kind_is stands.gone split is.refused;
       } in
-      inr (inr (subst (λ (l : List Incoming). IsTurnedAway opens answers l after) (sym same) turned))
+      inr (inr (inl (subst (λ (l : List Incoming). IsTurnedAway opens answers tells l after) (sym same) turned)))

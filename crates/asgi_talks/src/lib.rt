@@ -4,8 +4,11 @@
 
 mod answer;
 mod both;
+mod hosted;
+pub mod laws;
 mod messages;
 mod opened;
+mod quiet;
 mod receiving;
 mod sending;
 mod talked;
@@ -14,8 +17,10 @@ mod talking;
 
 pub use answer::{Answer, Close};
 pub use both::{Both, BothTask};
+pub use hosted::{Hosted, HostedTalker};
 pub use messages::Messages;
 pub use opened::Opened;
-pub use talked::{Talked, TalkedTask};
-pub use talker::{Talk, Talker};
+pub use quiet::{Hushed, Quiet};
+pub use talked::{Talked, TalkedTask, Told};
+pub use talker::{Talk, Talker, Tells};
 pub use talking::Talking;

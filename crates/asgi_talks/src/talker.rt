@@ -1,5 +1,5 @@
 //! What opens sessions, and what answers their messages.
-ghost use Rattle.std.specs.Prelude.{IfOk, ⊤};
+ghost use Rattle.std.specs.Prelude.{IfOk, OnErr, ⊤};
 ghost use Rattle.asgi_types.specs.declared.incoming.Payload.{Payload};
 ghost use Rattle.asgi_types.specs.declared.scope.WsScope.{WsScope};
 ghost use Rattle.asgi_talks.specs.declared.answer.Answer.{Answer};
@@ -21,6 +21,24 @@ pub trait Talk: Drop {
     /// refused; then nothing more is sent, and the server closes the session with 1011.
     fn hear(&mut self, alloc: Global, message: Payload) -> Result<Answer, AppFault>
         ensures { IfOk result (λ answer. answers self.old message self.new answer) };
+}
+
+/// A session that may also speak unasked, as when it sends on what others have said. A session that
+/// only answers is one too, as `Quiet`.
+pub trait Tells: Talk {
+    // The promise: that the session, as it was, has said this unasked, and what it is after it.
+    ghost tells: { Self → Self → Answer → Type 0 } = { λ _ _ _. ⊤ };
+
+    // The sessions that may fail to speak.
+    ghost fails: { Self → Type 0 } = { λ _. ⊤ };
+
+    /// What the session says unasked; nothing, if there is nothing to say. Asked in each turn of the
+    /// connection in which no message was there and all before was sent: some hundred times a second.
+    /// `Failed` by the session's own judgement, `NoMemory` if memory is refused; then nothing more is
+    /// sent, and the server closes the session with 1011.
+    fn tell(&mut self, alloc: Global) -> Result<Answer, AppFault>
+        ensures told { IfOk result (λ answer. tells self.old self.new answer) }
+        ensures failed { OnErr result (fails self.old) };
 }
 
 /// Opens each session. What several sessions share is behind the `&self`.

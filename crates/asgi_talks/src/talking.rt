@@ -1,17 +1,17 @@
 //! The task of one session: it is opened once, and each of its messages is answered in turn.
-ghost use Rattle.std.specs.Prelude.{◌≡◌, [], ◌∷◌, ◌++◌, None, Some, IfOk};
+ghost use Rattle.std.specs.Prelude.{◌≡◌, [], ◌∷◌, ◌++◌, None, Some, IfOk, OnErr};
 ghost use Rattle.futures.specs.Poll.{OnPending};
 ghost use Rattle.futures.specs.Task.{IsArmed, Keeps};
 ghost use Rattle.asgi_apps.specs.Ends.{GoesOn, IsWithin, end_of};
 ghost use Rattle.asgi_talks.specs.Answering.{answer_events, opening_events, session_after, session_of};
 ghost use Rattle.asgi_talks.specs.Talking.{IsInTurn, IsWaiting, TalkingAnswers, TalkingStands, left_of};
-ghost use Rattle.asgi_talks.specs.private.Steps.{Hears, Opens, Replies, TakesTurn, Waits};
+ghost use Rattle.asgi_talks.specs.private.Steps.{Hears, Opens, Replies, Speaks, TakesTurn, Waits};
 
 use crate::answer::Answer;
 use crate::opened::Opened;
 use crate::receiving::receive;
 use crate::sending::{Said, Sending};
-use crate::talker::{Talk, Talker};
+use crate::talker::{Talk, Talker, Tells};
 use asgi_apps::{AppFault, AppTask};
 use asgi_io::History;
 use asgi_pipes::AppEnd;
@@ -194,6 +194,17 @@ fn reply_to<S: Talk>(alloc: Global, mut session: S, message: Payload) -> Heard<S
     }
 }
 
+/// What comes of a turn in which no message was there: what the session says unasked is sent next.
+fn tell<S: Tells>(alloc: Global, mut session: S) -> Result<Stage<S>, AppFault>
+    ensures told { IfOk result (λ stage. Speaks S.tells session stage) }
+    ensures failed { OnErr result (S.fails session) }
+{
+    match session.tell(alloc) {
+        Ok(answer) => Ok(answering(session, answer)),
+        Err(e) => Err(e),
+    }
+}
+
 /// Sends the answer next.
 fn answering<S: Talk>(session: S, answer: Answer) -> Stage<S>
     ensures { TakesTurn result (session_after answer session) (answer_events answer) }
@@ -207,16 +218,16 @@ fn answering<S: Talk>(session: S, answer: Answer) -> Stage<S>
     Stage::Saying(session, Sending::answer(answer))
 }
 
-impl<T: Talker<Session = S>, S: Talk> Talking<T, S> {
+impl<T: Talker<Session = S>, S: Tells> Talking<T, S> {
     /// Receives the next event, before "Connect".
     fn wait<E: AppEnd>(&mut self, cx: &mut Context<'_>, end: &mut E) -> Poll<Result<(), AppFault>>
         requires open { E.ended end.old ≡ None }
         requires stage { self.old.stage ≡ Stage.Waiting }
         requires waits { IsWaiting self.old.called.items (E.kind end.old) (E.heard end.old) (E.said end.old) }
         ensures end { GoesOn E.AppEnd None end.old end.new }
-        ensures answers { TalkingAnswers T.opens S.answers self.old (E.heard end.new) (E.said end.new) (end_of result) }
-        ensures stands { OnPending result (TalkingStands T.opens S.answers self.new (E.kind end.new) (E.heard end.new) (E.said end.new)) }
-        ensures same { OnPending result (IsWithin (TalkingAnswers T.opens S.answers) self.new self.old) }
+        ensures answers { TalkingAnswers T.opens S.answers S.tells S.fails self.old (E.heard end.new) (E.said end.new) (end_of result) }
+        ensures stands { OnPending result (TalkingStands T.opens S.answers S.tells self.new (E.kind end.new) (E.heard end.new) (E.said end.new)) }
+        ensures same { OnPending result (IsWithin (TalkingAnswers T.opens S.answers S.tells S.fails) self.new self.old) }
         ensures armed { OnPending result (IsArmed cx.new) }
         ensures kept { Keeps cx.old cx.new }
     {
@@ -237,7 +248,7 @@ impl<T: Talker<Session = S>, S: Talk> Talking<T, S> {
         }
     }
 
-    /// Receives the next event of an open session.
+    /// Receives the next event of an open session, or asks the session if none is there.
     fn listen<E: AppEnd>(
         &mut self,
         cx: &mut Context<'_>,
@@ -245,19 +256,22 @@ impl<T: Talker<Session = S>, S: Talk> Talking<T, S> {
         session: S,
     ) -> Poll<Result<(), AppFault>>
         requires open { E.ended end.old ≡ None }
-        requires talks { IsInTurn (T.opens self.old.asked.talker self.old.asked.scope) S.answers (Some session) [] self.old.called.items (E.kind end.old) (E.heard end.old) (E.said end.old) }
+        requires talks { IsInTurn (T.opens self.old.asked.talker self.old.asked.scope) S.answers S.tells (Some session) [] self.old.called.items (E.kind end.old) (E.heard end.old) (E.said end.old) }
         ensures end { GoesOn E.AppEnd None end.old end.new }
-        ensures answers { TalkingAnswers T.opens S.answers self.old (E.heard end.new) (E.said end.new) (end_of result) }
-        ensures stands { OnPending result (TalkingStands T.opens S.answers self.new (E.kind end.new) (E.heard end.new) (E.said end.new)) }
-        ensures same { OnPending result (IsWithin (TalkingAnswers T.opens S.answers) self.new self.old) }
+        ensures answers { TalkingAnswers T.opens S.answers S.tells S.fails self.old (E.heard end.new) (E.said end.new) (end_of result) }
+        ensures stands { OnPending result (TalkingStands T.opens S.answers S.tells self.new (E.kind end.new) (E.heard end.new) (E.said end.new)) }
+        ensures same { OnPending result (IsWithin (TalkingAnswers T.opens S.answers S.tells S.fails) self.new self.old) }
         ensures armed { OnPending result (IsArmed cx.new) }
         ensures kept { Keeps cx.old cx.new }
     {
         match receive(cx, end) {
-            Poll::Pending => {
-                self.stage = Stage::Listening(session);
-                Poll::Pending
-            }
+            Poll::Pending => match tell(self.asked.alloc, session) {
+                Ok(stage) => {
+                    self.stage = stage;
+                    cx.yield_now()
+                }
+                Err(e) => Poll::Ready(Err(e)),
+            },
             Poll::Ready(event) => match next(self.asked.alloc, session, event) {
                 Heard::Passed(stage) => {
                     self.stage = stage;
@@ -282,12 +296,12 @@ impl<T: Talker<Session = S>, S: Talk> Talking<T, S> {
         mut sending: Sending,
     ) -> Poll<Result<(), AppFault>>
         requires open { E.ended end.old ≡ None }
-        requires talks { IsInTurn (T.opens self.old.asked.talker self.old.asked.scope) S.answers (Some session) (left_of sending) self.old.called.items
+        requires talks { IsInTurn (T.opens self.old.asked.talker self.old.asked.scope) S.answers S.tells (Some session) (left_of sending) self.old.called.items
             (E.kind end.old) (E.heard end.old) (E.said end.old) }
         ensures end { GoesOn E.AppEnd None end.old end.new }
-        ensures answers { TalkingAnswers T.opens S.answers self.old (E.heard end.new) (E.said end.new) (end_of result) }
-        ensures stands { OnPending result (TalkingStands T.opens S.answers self.new (E.kind end.new) (E.heard end.new) (E.said end.new)) }
-        ensures same { OnPending result (IsWithin (TalkingAnswers T.opens S.answers) self.new self.old) }
+        ensures answers { TalkingAnswers T.opens S.answers S.tells S.fails self.old (E.heard end.new) (E.said end.new) (end_of result) }
+        ensures stands { OnPending result (TalkingStands T.opens S.answers S.tells self.new (E.kind end.new) (E.heard end.new) (E.said end.new)) }
+        ensures same { OnPending result (IsWithin (TalkingAnswers T.opens S.answers S.tells S.fails) self.new self.old) }
         ensures armed { OnPending result (IsArmed cx.new) }
         ensures kept { Keeps cx.old cx.new }
     {
@@ -312,11 +326,11 @@ impl<T: Talker<Session = S>, S: Talk> Talking<T, S> {
         mut sending: Sending,
     ) -> Poll<Result<(), AppFault>>
         requires open { E.ended end.old ≡ None }
-        requires talks { IsInTurn (T.opens self.old.asked.talker self.old.asked.scope) S.answers None (left_of sending) self.old.called.items (E.kind end.old) (E.heard end.old) (E.said end.old) }
+        requires talks { IsInTurn (T.opens self.old.asked.talker self.old.asked.scope) S.answers S.tells None (left_of sending) self.old.called.items (E.kind end.old) (E.heard end.old) (E.said end.old) }
         ensures end { GoesOn E.AppEnd None end.old end.new }
-        ensures answers { TalkingAnswers T.opens S.answers self.old (E.heard end.new) (E.said end.new) (end_of result) }
-        ensures stands { OnPending result (TalkingStands T.opens S.answers self.new (E.kind end.new) (E.heard end.new) (E.said end.new)) }
-        ensures same { OnPending result (IsWithin (TalkingAnswers T.opens S.answers) self.new self.old) }
+        ensures answers { TalkingAnswers T.opens S.answers S.tells S.fails self.old (E.heard end.new) (E.said end.new) (end_of result) }
+        ensures stands { OnPending result (TalkingStands T.opens S.answers S.tells self.new (E.kind end.new) (E.heard end.new) (E.said end.new)) }
+        ensures same { OnPending result (IsWithin (TalkingAnswers T.opens S.answers S.tells S.fails) self.new self.old) }
         ensures armed { OnPending result (IsArmed cx.new) }
         ensures kept { Keeps cx.old cx.new }
     {
@@ -331,12 +345,12 @@ impl<T: Talker<Session = S>, S: Talk> Talking<T, S> {
     }
 }
 
-impl<T: Talker<Session = S> + Drop, S: Talk> AppTask for Talking<T, S> {
+impl<T: Talker<Session = S> + Drop, S: Tells> AppTask for Talking<T, S> {
     ghost use Rattle.asgi_talks.specs.Talking.{talking_keeps};
 
-    ghost stands = { TalkingStands T.opens S.answers };
+    ghost stands = { TalkingStands T.opens S.answers S.tells };
 
-    ghost answers = { TalkingAnswers T.opens S.answers };
+    ghost answers = { TalkingAnswers T.opens S.answers S.tells S.fails };
 
     fn poll<E: AppEnd>(&mut self, cx: &mut Context<'_>, end: &mut E) -> Poll<Result<(), AppFault>> {
         match mem::replace(&mut self.stage, Stage::Waiting) {
@@ -347,5 +361,5 @@ impl<T: Talker<Session = S> + Drop, S: Talk> AppTask for Talking<T, S> {
         }
     }
 
-    ghost keeps = { talking_keeps T.opens S.answers };
+    ghost keeps = { talking_keeps T.opens S.answers S.tells S.fails };
 }

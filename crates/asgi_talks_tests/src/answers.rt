@@ -10,11 +10,11 @@ use std::test::Fail;
 
 /// Accepts each session, and counts its messages.
 #[derive(Clone, Copy, Debug)]
-struct Counts;
+pub struct Counts;
 
 /// How many messages were heard.
 #[derive(Clone, Copy, Debug, Drop)]
-struct Count {
+pub struct Count {
     heard: u64,
 }
 
@@ -72,13 +72,13 @@ const CLOSED: Row = (
     "accept|text 1 a|text bye|close 1000 done|returned",
 );
 
-const MISSED: Row = (
+pub const MISSED: Row = (
     Request,
     &[Last("abc")],
     "start 404 content-length=0|last |returned",
 );
 
-const ANSWERS: &[Row] = &[
+pub const ANSWERS: &[Row] = &[
     WHOLE,
     CLOSED,
     MISSED,

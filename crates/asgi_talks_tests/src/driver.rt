@@ -421,7 +421,11 @@ fn run<R: RandomSource + AllocGlobal, A: Application + Drop>(
 }
 
 /// Whether the application sends what the row holds. For a fault of its call the row holds `faulted`.
-fn is_said<R: RandomSource + AllocGlobal, A: Application + Drop>(rt: &R, app: A, row: Row) -> bool {
+pub fn is_said<R: RandomSource + AllocGlobal, A: Application + Drop>(
+    rt: &R,
+    app: A,
+    row: Row,
+) -> bool {
     match run(rt, app, row) {
         Ok(is_same) => is_same,
         Err(_) => row.2 == "faulted",

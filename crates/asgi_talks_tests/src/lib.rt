@@ -11,3 +11,5 @@ mod driver;
 mod handshakes;
 #[cfg(test)]
 mod promises;
+#[cfg(test)]
+mod telling;

@@ -54,6 +54,10 @@ module _ {S : Type 0} where
   Replies answers session message Gone = ⊥
   Replies answers session message (Failed fault) = ⊤
 
+  -- what comes of a turn in which no message was there
+  abbrev pub Speaks : (S → S → Answer → Type 0) → S → Stage S → Type 0
+  Speaks tells session stage = (next : S) × (answer : Answer) × tells session next answer × TakesTurn stage (session_after answer next) (answer_events answer)
+
   -- what comes of an event in an open session
   abbrev pub Hears : (S → Payload → S → Answer → Type 0) → S → Incoming → Heard S → Type 0
   Hears answers session event (Passed stage) = (payloads_of (event ∷ []) ≡ []) × (is_disconnect event ≡ false) × (stage ≡ Listening session)
