@@ -23,8 +23,27 @@ pub fn ask<H: Handler>(
         × H.replies handler.now scope body.now reply) }
 {
     let scope = scope_of(alloc, method, path)?;
-    let segments = segments_of(alloc, path, "")?;
-    let request = Request::new(alloc, &scope, segments.as_slice(), body);
+    ask_in(alloc, handler, &scope, body)
+}
+
+/// The reply of a handler to a request of this scope with this body.
+fn ask_in<H: Handler>(
+    alloc: Global,
+    handler: &H,
+    scope: &HttpScope,
+    body: &[u8],
+) -> Result<Reply, AppFault>
+    ensures { IfOk result (λ reply. H.replies handler.now scope.now body.now reply) }
+{
+    let path = scope.path.as_str();
+    let segments = segments_of(alloc, path, scope.root_path.as_str())?;
+    let request = Request {
+        alloc,
+        scope,
+        segments: segments.as_slice(),
+        params: &[],
+        body,
+    };
     handler.handle(&request)
 }
 

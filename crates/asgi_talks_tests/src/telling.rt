@@ -1,5 +1,5 @@
 //! What sessions say unasked.
-ghost use Rattle.std.specs.Prelude.{◌≡◌, ◌+◌};
+ghost use Rattle.std.specs.Prelude.{◌≡◌, ◌<◌, ◌+◌, ◌^◌};
 
 use crate::answers::{ANSWERS, Counts, MISSED};
 use crate::driver::Ask::{Lifespan, Session};
@@ -201,10 +201,10 @@ impl Talk for Asked {
 }
 
 impl Tells for Asked {
-    // Each turn is counted, and a session that has counted too many may fail, and no other.
+    // Each turn is counted. A session that can't count one more may fail, and no other.
     ghost tells = { λ before after _. after.turns ≡ before.turns + 1 };
 
-    ghost fails = { λ session. session.turns ≡ 18446744073709551615 };
+    ghost fails = { λ session. ¬ (session.turns + 1 < 2 ^ 64) };
 
     fn tell(&mut self, alloc: Global) -> Result<Answer, AppFault> {
         let Some(turns) = self.turns.checked_add(1) else {

@@ -3,6 +3,6 @@ use Rattle.asgi_handlers.proofs.asking.ask.Goals as goal
 
 pub returns : goal.returns
 returns g c =
-    IfOk-weaker c.handle.result _ _
-    (λ reply allowed. (c.in-Ok.scope, c.in-Ok.ensures.method, c.in-Ok.ensures.path, allowed))
-    c.handle.ensures
+    IfOk-weaker c.ask_in.result _ _
+    (λ reply allowed. (c.in_ok-scope.scope, c.in_ok-scope.ensures.method, c.in_ok-scope.ensures.path, allowed))
+    c.ask_in.ensures
