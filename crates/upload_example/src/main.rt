@@ -4,7 +4,6 @@
 mod upload;
 
 use nomtsage::{BadLimit, Limits, Server};
-use std::env;
 use std::process::ExitCode;
 use std::rt::Env;
 use upload::Upload;
@@ -22,6 +21,6 @@ fn main(rt: HostRuntime) -> Result<ExitCode, BadLimit> {
 
 /// The port, and after how many connections to end.
 fn words_of<H: Env + AllocGlobal>(rt: &H) -> Option<(u16, u64)> {
-    let mut words = env::args(rt).ok()?.skip(1);
+    let mut words = std::env::args(rt).ok()?.skip(1);
     Some((words.next()?.parse().ok()?, words.next()?.parse().ok()?))
 }
