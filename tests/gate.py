@@ -39,6 +39,7 @@ PARTS = [
     ("tests from outside", ["python3", "tests/program.py", PROGRAM]),
     ("tests from outside", ["python3", "tests/sessions.py", PROGRAM]),
     ("tests from outside", ["python3", "tests/servers.py", PROGRAM]),
+    ("tests from outside", ["python3", "tests/examples.py"]),
     ("tests from outside", ["python3", "tests/faults.py", PROGRAM]),
     ("tests from outside", ["python3", "tests/many.py", PROGRAM]),
     ("tests from outside", ["python3", "tests/keys.py", KEYS]),

@@ -1,6 +1,5 @@
 //! The sessions of the chat.
-use asgi_talks::Tells;
-use nomtsage::{Answer, AppFault, Chars, Opened, Payload, Talk, Talker, WsScope};
+use nomtsage::{Answer, AppFault, Chars, Opened, Payload, Talk, Talker, Tells, WsScope};
 use std::alloc::Global;
 use std::sync::{Arc, Mutex, Wait};
 

@@ -4,9 +4,8 @@
 mod chat;
 mod page;
 
-use asgi_talks::Hosted;
 use chat::Chat;
-use nomtsage::{Both, Handled, Server};
+use nomtsage::{Both, Handled, Hosted, Server};
 use page::Page;
 use std::alloc::AllocError;
 use std::env;

@@ -19,7 +19,8 @@ pub use asgi_pipes::{AppEnd, EndKind, Sent};
 pub use asgi_routes::{Chain, Empty, Endpoint, Endpoints, Method, RouteError, Routes};
 pub use asgi_server::{Accepts, Listener, Nobody, OnEnd, Teller, Workers};
 pub use asgi_talks::{
-    Answer, Both, BothTask, Close, Messages, Opened, Talk, Talked, TalkedTask, Talker,
+    Answer, Both, BothTask, Close, Hosted, HostedTalker, Hushed, Messages, Opened, Talk, Talked,
+    TalkedTask, Talker, Tells, Told,
 };
 pub use asgi_types::{
     BadLimit, Chars, HeaderError, Headers, HttpScope, HttpVersion, Incoming, Kind, LifespanScope,
