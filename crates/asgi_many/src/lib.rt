@@ -1,0 +1,11 @@
+//! Many connections in one thread: a table of seats, each with a connection that is taken up turn by turn, in whatever
+//! order its caller names them.
+#![tactic(auto)]
+
+pub mod laws;
+mod seat;
+mod table;
+
+pub use asgi_conn::{Inline, Limits, Report, Runner, Step};
+pub use seat::{Ended, Newcomer};
+pub use table::{Table, Turned};
