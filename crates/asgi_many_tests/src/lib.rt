@@ -1,0 +1,11 @@
+//! Tests of a table of seats.
+#![tactic(auto)]
+
+#[cfg(test)]
+mod drawn;
+#[cfg(test)]
+mod lines;
+#[cfg(test)]
+mod seats;
+#[cfg(test)]
+mod serving;

@@ -1,0 +1,183 @@
+//! A table whose seats are named in an order that a seed sets.
+ghost use Rattle.std.specs.Prelude.{◌≡◌, List, Option};
+ghost use Rattle.asgi_many.specs.declared.seat.Ended.{Ended};
+ghost use Rattle.asgi_many.specs.declared.seat.Newcomer.{Newcomer};
+ghost use Rattle.asgi_many.specs.Standing.{Holds};
+
+use crate::lines::{Input, Line, newcomer};
+use asgi_apps::Application;
+use asgi_conn::{Calls, Host, Inline, Line as AnyLine, Runner};
+use asgi_many::{Ended, Newcomer, Table, Turned};
+use asgi_types::{Limits, State};
+use futures::task::{Doorbell, Solo};
+use std::alloc::{AllocError, AllocGlobal, Global};
+use std::io::{self, ErrorKind};
+
+/// The most steps of a run.
+const STEPS: u64 = 1_000_000;
+
+/// Numbers in an order that a seed sets.
+#[derive(Clone, Copy)]
+pub struct Draws {
+    pub seed: u64,
+}
+
+impl Draws {
+    fn draw(&mut self) -> u64 {
+        self.seed ^= self.seed << 13;
+        self.seed ^= self.seed >> 7;
+        self.seed ^= self.seed << 17;
+        self.seed
+    }
+}
+
+/// What a run came to.
+#[derive(Drop)]
+pub struct Run {
+    /// What ended, at the places of the numbers.
+    pub ends: Vec<Option<Ended<Line>>>,
+    /// How often a seat was named in which nobody sat.
+    pub nobody: u64,
+    /// Two ended under one number, or one under the number of none.
+    pub is_wrong: bool,
+}
+
+impl Run {
+    /// Nothing has ended of so many.
+    fn new(alloc: Global, many: usize) -> Result<Self, AllocError> {
+        let mut ends = Vec::new(alloc);
+        for _one in 0..many {
+            ends.push(None)?;
+        }
+        Ok(Run {
+            ends,
+            nobody: 0,
+            is_wrong: false,
+        })
+    }
+
+    fn take(&mut self, turned: Turned<Line>) {
+        match turned {
+            Turned::NoOne => self.nobody = self.nobody.saturating_add(1),
+            Turned::Moved => {}
+            Turned::Idle => {}
+            Turned::Over(end) => self.put(end),
+        }
+    }
+
+    fn put(&mut self, end: Ended<Line>) {
+        let Some(place) = self.ends.get_mut(end.number as usize) else {
+            self.is_wrong = true;
+            return;
+        };
+        if place.is_some() {
+            self.is_wrong = true;
+            return;
+        }
+        *place = Some(end);
+    }
+}
+
+/// The inputs of all that come, and who waits for a seat.
+#[derive(Drop)]
+struct Arrivals<'a> {
+    inputs: &'a [Input],
+    next: usize,
+    waiting: Option<Newcomer<Line>>,
+}
+
+impl Arrivals<'_> {
+    /// Has the next one wait, if nobody does.
+    fn wait<H: AllocGlobal>(&mut self, rt: &H) -> Result<(), AllocError> {
+        if self.waiting.is_some() {
+            return Ok(());
+        }
+        let Some(input) = self.inputs.get(self.next) else {
+            return Ok(());
+        };
+        self.waiting = Some(newcomer(rt, input, 1_000)?);
+        self.next = self.next.saturating_add(1);
+        Ok(())
+    }
+}
+
+/// One that waits is given a seat, or waits on if the table is full; or a seat takes a turn, which may be free or not there.
+fn step<X, A: Application, L: AnyLine, U: Runner<A::Task, Exchange = X>>(
+    table: &mut Table<X, L>,
+    state: &State,
+    calls: &mut Calls<'_, A>,
+    runner: &mut U,
+    waiting: &mut Option<Newcomer<L>>,
+    drawn: u64,
+) -> Turned<L>
+    requires { (came : List (Newcomer L)) × (ended : List (Option (Ended L)))
+        × Holds A.Task.answers U.Pipes.Conn.ConnEnd U.Pipes.App.AppEnd U.conn U.began (A.answers calls.old.app.now) L.state state.now came table.old ended }
+    ensures { (came : List (Newcomer L)) × (ended : List (Option (Ended L)))
+        × Holds A.Task.answers U.Pipes.Conn.ConnEnd U.Pipes.App.AppEnd U.conn U.began (A.answers calls.new.app.now) L.state state.now came table.new ended }
+{
+    if drawn % 4 != 0 {
+        let bound = table.bound() as u64;
+        let at = ((drawn >> 8) % bound.saturating_add(2).max(1)) as usize;
+        return table.turn(at, state, calls, runner);
+    }
+    let Some(newcomer) = waiting.take() else {
+        return Turned::NoOne;
+    };
+    if let Err(back) = table.seat::<A, U>(state, newcomer) {
+        *waiting = Some(back);
+    }
+    Turned::NoOne
+}
+
+/// Serves one connection for each input, over a table with so many places.
+pub fn run<H: Host, A: Application>(
+    rt: &H,
+    app: &A,
+    limits: &Limits,
+    inputs: &[Input],
+    places: usize,
+    draws: Draws,
+) -> io::Result<Run> {
+    let solo = Solo::new(rt, Doorbell::spinning())?;
+    let mut runner = Inline::new(solo.begin());
+    let ran = run_by(rt, app, limits, inputs, places, draws, &mut runner);
+    runner.end();
+    ran
+}
+
+fn run_by<H: Host, X: Drop, A: Application, U: Runner<A::Task, Exchange = X>>(
+    rt: &H,
+    app: &A,
+    limits: &Limits,
+    inputs: &[Input],
+    places: usize,
+    draws: Draws,
+    runner: &mut U,
+) -> io::Result<Run> {
+    let state = State::new(rt.alloc());
+    let mut calls = Calls::of(app);
+    let mut draws = draws;
+    let mut table = Table::new::<A, U>(rt.alloc(), limits, places)?;
+    let mut run = Run::new(rt.alloc(), inputs.len())?;
+    let mut arrivals = Arrivals {
+        inputs,
+        next: 0,
+        waiting: None,
+    };
+    for _step in 0..STEPS {
+        arrivals.wait(rt)?;
+        if arrivals.waiting.is_none() && table.is_empty() {
+            return Ok(run);
+        }
+        let turned = step(
+            &mut table,
+            &state,
+            &mut calls,
+            runner,
+            &mut arrivals.waiting,
+            draws.draw(),
+        );
+        run.take(turned);
+    }
+    Err(io::Error::from(ErrorKind::TimedOut))
+}
