@@ -1,3 +1,4 @@
 pub mod ListLemmas
 pub mod SeatLemmas
 pub mod StandingLemmas
+pub mod TableLemmas

@@ -47,7 +47,6 @@ module _ {A S E : Type 0} (number : S → ℕ) (at : A → S → Type 0) (promis
 
   module _ (came : List A) (before after : ℕ → Option S) (ended : List (Option E)) (i : ℕ) (others : (j : ℕ) → j ≢ i → after j ≡ before j)
       (s : Seating number at promise came before ended) where
-
     -- who sits there goes on
     pub goes_on : (was is : S) → before i ≡ Some was → after i ≡ Some is → number is ≡ number was → ((one : A) → at one was → at one is)
         → Seating number at promise came after ended

@@ -32,13 +32,23 @@ module _ {T C E X : Type 0} {answers : T → List Incoming → List Outgoing →
       → conn.IsAt answers conns ends side began promise limits t start at now read exchanges written
   same_at (place.Between wire) now read exchanges written stands = stands
   same_at (place.Http half exchange) now read exchanges written stands =
-      let (scope, facts, opened, in_it) = stands in
-      (scope, facts, opened, subst (λ (in_scope : Scope). InExchange http_half.ghosts answers conns ends side began (promise in_scope)
-      (http_scene limits start exchanges written scope facts opened) now half read exchange) (same_scope scope) in_it)
+      let (scope, facts, opened, in_it) = stands in (
+        scope,
+        facts,
+        opened,
+        subst (λ (in_scope : Scope). InExchange http_half.ghosts answers conns ends side began (promise in_scope)
+            (http_scene limits start exchanges written scope facts opened) now half read exchange) (same_scope scope) in_it,
+      )
   same_at (place.Session half exchange) now read exchanges written stands =
-      let (scope, facts, frames, asked, ahead, in_it) = stands in
-      (scope, facts, frames, asked, ahead, subst (λ (in_scope : Scope). InExchange session_half.ghosts answers conns ends side began (promise in_scope)
-      (session_scene limits start exchanges written scope facts frames asked) now half read exchange) (same_scope scope) in_it)
+      let (scope, facts, frames, asked, ahead, in_it) = stands in (
+        scope,
+        facts,
+        frames,
+        asked,
+        ahead,
+        subst (λ (in_scope : Scope). InExchange session_half.ghosts answers conns ends side began (promise in_scope)
+            (session_scene limits start exchanges written scope facts frames asked) now half read exchange) (same_scope scope) in_it,
+      )
   same_at (place.Ended outcome) now read exchanges written stands = stands
 
   pub same_values : (before : ℕ) (now : LineState) (pauses : ℕ) (connection : Connection X)

@@ -17,5 +17,4 @@ pub fn each_has_one_report<X, A: Application, L: Line, U: Runner<A::Task, Exchan
     ensures { (app : A) (state : List (List ℕ × StateValue)) (came : List (Newcomer L)) (table : Table X L) (ended : List (Option (Ended L)))
         → Holds A.Task.answers U.Pipes.Conn.ConnEnd U.Pipes.App.AppEnd U.conn U.began (A.answers app) L.state state came table ended
         → IsEmpty table → EachOnce (IsServed (A.answers app) L.state table.limits state) came ended }
-{
-}
+{}

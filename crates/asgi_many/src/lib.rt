@@ -6,6 +6,6 @@ pub mod laws;
 mod seat;
 mod table;
 
-pub use asgi_conn::{Inline, Limits, Report, Runner, Step};
+pub use asgi_conn::{Inline, Report, Runner};
 pub use seat::{Ended, Newcomer};
 pub use table::{Table, Turned};

@@ -47,7 +47,14 @@ fn seated<H: Host, X: Drop, A: Application, U: Runner<A::Task, Exchange = X>>(
 
 #[test]
 fn one_that_finds_no_seat_comes_back(rt: HostRuntime) -> Result<(), Fail> {
-    let rows: &[(usize, u16, usize)] = &[(0, 2, 0), (1, 0, 0), (1, 1, 1), (1, 3, 1), (3, 2, 2), (3, 9, 3)];
+    let rows: &[(usize, u16, usize)] = &[
+        (0, 2, 0),
+        (1, 0, 0),
+        (1, 1, 1),
+        (1, 3, 1),
+        (3, 2, 2),
+        (3, 9, 3),
+    ];
     for (places, many, wanted) in rows {
         let solo = Solo::new(&rt, Doorbell::spinning())?;
         let runner = Inline::new(solo.begin());
