@@ -102,7 +102,7 @@ impl Arrivals<'_> {
 }
 
 /// One that waits is given a seat, or waits on if the table is full; or a seat takes a turn, which may be free or not there.
-fn step<X, A: Application, L: AnyLine, U: Runner<A::Task, Exchange = X>>(
+fn step<X, A: Application, L: AnyLine + Drop, U: Runner<A::Task, Exchange = X>>(
     table: &mut Table<X, L>,
     state: &State,
     calls: &mut Calls<'_, A>,
