@@ -33,7 +33,7 @@ impl Draws {
 
 /// What a run came to.
 #[derive(Drop)]
-pub struct Run {
+pub struct Ran {
     /// What ended, at the places of the numbers.
     pub ends: Vec<Option<Ended<Line>>>,
     /// How often a seat was named in which nobody sat.
@@ -42,14 +42,14 @@ pub struct Run {
     pub is_wrong: bool,
 }
 
-impl Run {
+impl Ran {
     /// Nothing has ended of so many.
     fn new(alloc: Global, many: usize) -> Result<Self, AllocError> {
         let mut ends = Vec::new(alloc);
         for _one in 0..many {
             ends.push(None)?;
         }
-        Ok(Run {
+        Ok(Ran {
             ends,
             nobody: 0,
             is_wrong: false,
@@ -137,7 +137,7 @@ pub fn run<H: Host, A: Application>(
     inputs: &[Input],
     places: usize,
     draws: Draws,
-) -> io::Result<Run> {
+) -> io::Result<Ran> {
     let solo = Solo::new(rt, Doorbell::spinning())?;
     let mut runner = Inline::new(solo.begin());
     let ran = run_by(rt, app, limits, inputs, places, draws, &mut runner);
@@ -153,12 +153,12 @@ fn run_by<H: Host, X: Drop, A: Application, U: Runner<A::Task, Exchange = X>>(
     places: usize,
     draws: Draws,
     runner: &mut U,
-) -> io::Result<Run> {
+) -> io::Result<Ran> {
     let state = State::new(rt.alloc());
     let mut calls = Calls::of(app);
     let mut draws = draws;
     let mut table = Table::new::<A, U>(rt.alloc(), limits, places)?;
-    let mut run = Run::new(rt.alloc(), inputs.len())?;
+    let mut run = Ran::new(rt.alloc(), inputs.len())?;
     let mut arrivals = Arrivals {
         inputs,
         next: 0,
