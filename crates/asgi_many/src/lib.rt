@@ -4,6 +4,7 @@
 
 pub mod laws;
 mod seat;
+mod seating;
 mod table;
 
 pub use asgi_conn::{Inline, Report, Runner};
