@@ -21,12 +21,12 @@ use Rattle.asgi_conn.specs.Places as place
 use Rattle.asgi_conn.specs.Standing as conn
 use Rattle.asgi_conn.specs.Standing.{InExchange, Stands, http_scene, session_scene, scope_in}
 
-module _ {T C E X : Type 0} {answers : T → List Incoming → List Outgoing → Option EndKind → Type 0} {conns : conn_end.Ghosts C} {ends : app_end.Ghosts E} {side : X → C}
-    {began : X → AppSide T E → Type 0} {promise : Promise} {limits : Limits} {start : LineState} (s t : Setting)
-    (client : t.client.now ≡ s.client.now) (server : t.server.now ≡ s.server.now) (state : t.state.now ≡ s.state.now) where
-  same_scope : (scope : Scope) → scope_in s scope ≡ scope_in t scope
-  same_scope scope = rw (client, server, state) refl
+same_scope : (s t : Setting) → t.client.now ≡ s.client.now → t.server.now ≡ s.server.now → t.state.now ≡ s.state.now → (scope : Scope) → scope_in s scope ≡ scope_in t scope
+same_scope s t client server state scope = rw (client, server, state) refl
 
+module _ {T C E X : Type 0} (answers : T → List Incoming → List Outgoing → Option EndKind → Type 0) (conns : conn_end.Ghosts C) (ends : app_end.Ghosts E) (side : X → C)
+    (began : X → AppSide T E → Type 0) (promise : Promise) (limits : Limits) (start : LineState) (s t : Setting)
+    (client : t.client.now ≡ s.client.now) (server : t.server.now ≡ s.server.now) (state : t.state.now ≡ s.state.now) where
   same_at : (at : Place X) (now : LineState) (read : List ℕ) (exchanges : List ExchangeRecord) (written : List ℕ)
       → conn.IsAt answers conns ends side began promise limits s start at now read exchanges written
       → conn.IsAt answers conns ends side began promise limits t start at now read exchanges written
@@ -37,7 +37,7 @@ module _ {T C E X : Type 0} {answers : T → List Incoming → List Outgoing →
         facts,
         opened,
         subst (λ (in_scope : Scope). InExchange http_half.ghosts answers conns ends side began (promise in_scope)
-            (http_scene limits start exchanges written scope facts opened) now half read exchange) (same_scope scope) in_it,
+            (http_scene limits start exchanges written scope facts opened) now half read exchange) (same_scope s t client server state scope) in_it,
       )
   same_at (place.Session half exchange) now read exchanges written stands =
       let (scope, facts, frames, asked, ahead, in_it) = stands in (
@@ -47,7 +47,7 @@ module _ {T C E X : Type 0} {answers : T → List Incoming → List Outgoing →
         asked,
         ahead,
         subst (λ (in_scope : Scope). InExchange session_half.ghosts answers conns ends side began (promise in_scope)
-            (session_scene limits start exchanges written scope facts frames asked) now half read exchange) (same_scope scope) in_it,
+            (session_scene limits start exchanges written scope facts frames asked) now half read exchange) (same_scope s t client server state scope) in_it,
       )
   same_at (place.Ended outcome) now read exchanges written stands = stands
 

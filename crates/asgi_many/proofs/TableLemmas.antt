@@ -36,8 +36,8 @@ nobody s none = nobody_in s.slots none
 pub none_yet : {S : Type 0} (s : Slab S) → s.slots ≡ [] → slab_len s ≡ 0
 none_yet s empty = rw empty refl
 
-module _ {T C E X L : Type 0} {answers : T → List Incoming → List Outgoing → Option EndKind → Type 0} {conns : conn_end.Ghosts C} {ends : app_end.Ghosts E} {conn : X → C}
-    {began : X → AppSide T E → Type 0} {promise : Promise} {line_state : L → LineState} {state : List (List ℕ × StateValue)} where
+module _ {T C E X L : Type 0} (answers : T → List Incoming → List Outgoing → Option EndKind → Type 0) (conns : conn_end.Ghosts C) (ends : app_end.Ghosts E) (conn : X → C)
+    (began : X → AppSide T E → Type 0) (promise : Promise) (line_state : L → LineState) (state : List (List ℕ × StateValue)) where
   -- this holds with these newcomers and these ends
   abbrev Now : List (Newcomer L) → Table X L → List (Option (Ended L)) → Type 0
   Now came table ended = Holds answers conns ends conn began promise line_state state came table ended

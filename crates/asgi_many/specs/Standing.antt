@@ -1,5 +1,5 @@
 -- What holds of a table: each connection that came stands in its seat as `Stands` of asgi_conn says, or has ended as `Serves` says.
-use Rattle.std.specs.Prelude.{◌≡◌, ℕ, List, length, Option}
+use Rattle.std.specs.Prelude.{◌≡◌, ◌≤◌, ℕ, List, length, Option}
 use Rattle.asgi_types.specs.declared.end_kind.EndKind.{EndKind}
 use Rattle.asgi_types.specs.declared.incoming.Incoming.{Incoming}
 use Rattle.asgi_types.specs.declared.limits.Limits.{Limits}
@@ -35,7 +35,7 @@ IsEmpty table = slab_len table.seats ≡ 0
 
 -- each seat is taken
 abbrev pub IsFull : {X L : Type 0} → Table X L → Type 0
-IsFull table = slab_len table.seats ≡ table.places
+IsFull table = table.places ≤ slab_len table.seats
 
 module _ {T C E X L : Type 0} (answers : T → List Incoming → List Outgoing → Option EndKind → Type 0) (conns : conn_end.Ghosts C) (ends : app_end.Ghosts E) (conn : X → C)
     (began : X → AppSide T E → Type 0) (promise : Promise) (line_state : L → LineState) where

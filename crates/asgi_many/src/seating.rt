@@ -1,5 +1,5 @@
 //! Who gets a seat, and the turns of who sits there.
-ghost use Rattle.std.specs.Prelude.{◌≡◌, ◌≢◌, ◌+◌, ◌-◌, ◌^◌, ◌<◌, ◌≤◌, ◌⊎◌, ◌↔◌, ◌++◌, ◌∷◌, [], ℕ, List, Option, Some, None, IsTrue, IfOk, IfErr, IsErr, IsSomeAnd, slice_get};
+ghost use Rattle.std.specs.Prelude.{◌≡◌, ◌≢◌, ◌+◌, ◌-◌, ◌^◌, ◌<◌, ◌≤◌, ◌⊎◌, ◌↔◌, ◌++◌, ◌∷◌, [], ℕ, List, Option, Some, None, IsTrue, IsFalse, IfOk, IfErr, IsErr, IsSomeAnd, slice_get};
 ghost use Rattle.asgi_types.specs.declared.state.StateValue.{StateValue};
 ghost use Rattle.slab.specs.Slab.{get, slab_len};
 ghost use Rattle.asgi_conn.specs.Standing.{IsReportOf};
@@ -61,9 +61,10 @@ impl<X, L: Line> Table<X, L> {
 
     /// Whether each seat is taken.
     pub fn is_full(&self) -> bool
-        ensures { IsTrue result ↔ IsFull self.now }
+        ensures full { IsTrue result → IsFull self.now }
+        ensures free { IsFalse result → slab_len self.now.seats < self.now.places }
     {
-        self.seats.len() == self.places
+        self.seats.len() >= self.places
     }
 
     /// The seat that the next newcomer gets, if there is one for it. Each seat has a number below `bound`.
@@ -150,7 +151,7 @@ impl<X, L: Line> Table<X, L> {
             × (result.pauses ≡ seat.pause.count) × (result.line ≡ seat.line)) }
         ensures free { get self.new.seats at ≡ None }
         ensures others { (other : ℕ) → other ≢ at → get self.new.seats other ≡ get self.old.seats other }
-        ensures same { self.new ≡ record self.old { seats = self.new.seats } }
+        ensures same { (self.new.limits ≡ self.old.limits) × (self.new.places ≡ self.old.places) × (self.new.came ≡ self.old.came) }
     {
         self.seats.remove(at).end(report)
     }
