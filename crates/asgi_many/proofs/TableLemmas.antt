@@ -32,6 +32,10 @@ nobody_in (Some seat ∷ rest) none i = absurd (omega (arith, none, sum_by-cons 
 pub nobody : {S : Type 0} (s : Slab S) → slab_len s ≡ 0 → (i : ℕ) → get s i ≡ None
 nobody s none = nobody_in s.slots none
 
+-- a value is written where one was
+pub written : {S : Type 0} (s : Slab S) (i : ℕ) (was is : S) → get s i ≡ Some was → Updates s (with_value s i is) i (Some is)
+written s i was is there = Updates-with_value s i is (rw there refl)
+
 -- a slab with no slots has no value
 pub none_yet : {S : Type 0} (s : Slab S) → s.slots ≡ [] → slab_len s ≡ 0
 none_yet s empty = rw empty refl
@@ -71,7 +75,7 @@ module _ {T C E X L : Type 0} (answers : T → List Incoming → List Outgoing �
     pub goes_on : (was is : Seat X L) → new.came ≡ old.came → get old.seats i ≡ Some was → new.seats ≡ with_value old.seats i is → is.number ≡ was.number
         → ((one : Newcomer L) → At old.limits one was → At old.limits one is) → Now came new ended
     goes_on was is next there written number moves =
-        let updates = Updates-with_value old.seats i is (rw there refl) in
+        let updates = written old.seats i was is there in
         record {
           counted = next ∙ holds.counted;
           seating = rw (same, written) (seats.goes_on number_of (At old.limits) (IsServed promise line_state old.limits state) came (get old.seats) (get (with_value old.seats i is)) ended i
