@@ -123,10 +123,13 @@ fn step<X, A: Application, L: AnyLine + Drop, U: Runner<A::Task, Exchange = X>>(
     let Some(newcomer) = waiting.take() else {
         return Turned::NoOne;
     };
-    if let Err(back) = table.seat::<A, U>(state, newcomer) {
-        *waiting = Some(back);
+    match table.seat::<A, U>(state, newcomer) {
+        Ok(_) => Turned::NoOne,
+        Err(back) => {
+            *waiting = Some(back);
+            Turned::NoOne
+        }
     }
-    Turned::NoOne
 }
 
 /// Serves one connection for each input, over a table with so many places.
