@@ -14,6 +14,6 @@ returns-clause-at g c limits one at = sits (c.turn.ensures.stands limits (g.L.Li
     refl at.client at.server refl at.client at.server
 
 pub returns-clause-served : goal.returns-clause-served
-returns-clause-served g c = if_over c.turn.result (λ report serves limits one at.
+returns-clause-served g c = if_over c.turn.result c.turn.ensures.over (λ report serves limits one at.
     rw (← at.client, ← at.server) (serves limits (g.L.Line.state one.line) 0
-    (same_values _ _ _ _ _ _ _ _ at.setting _ (at.client ∙ sym at.is_client) (at.server ∙ sym at.is_server) (sym at.is_state) 0 _ _ _ at.stands))) c.turn.ensures.over
+    (same_values _ _ _ _ _ _ _ _ at.setting _ (at.client ∙ sym at.is_client) (at.server ∙ sym at.is_server) (sym at.is_state) 0 _ _ _ at.stands)))
