@@ -18,15 +18,6 @@ not_both xs i j x at_i at_j same = none-some x (sym at_i ∙ ap xs (sym same) �
 module _ {A S E : Type 0} (number : S → ℕ) (at : A → S → Type 0) (promise : A → E → Type 0) where
   -- ---- a table in which nobody sits
 
-  pub begins : (seats : ℕ → Option S) → ((i : ℕ) → seats i ≡ None) → Seating number at promise [] seats []
-  begins seats free = record {
-    long = refl;
-    sitting = λ i seat there. absurd (none-some seat (sym (free i) ∙ there));
-    apart = λ i j seat other there. absurd (none-some seat (sym (free i) ∙ there));
-    each = λ k end one there. absurd (none-some (Some end) there);
-    waits = λ k there. absurd (none-some None there);
-  }
-
   all_at : (came : List A) (seats : ℕ → Option S) (ended : List (Option E)) → ((i : ℕ) → seats i ≡ None) → Seating number at promise came seats ended
       → (k : ℕ) (one : A) → slice_get came k ≡ Some one → (place : Option E) → slice_get ended k ≡ Some place
       → (end : E) × (slice_get ended k ≡ Some (Some end)) × promise one end

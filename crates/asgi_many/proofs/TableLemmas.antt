@@ -1,5 +1,5 @@
 -- What holds of a table after one of its seats has changed.
-use Rattle.std.proofs.Common.{◌≡◌, ◌≢◌, ℕ, zero, suc, ◌+◌, List, [], ◌∷◌, ◌++◌, Option, Some, None, is_some, cond, count_by, refl, sym, ap, ◌∙◌, arith, slice_get, length-append}
+use Rattle.std.proofs.Common.{◌≡◌, ◌≢◌, ℕ, zero, suc, ◌+◌, List, [], ◌∷◌, ◌++◌, Option, Some, None, is_some, cond, count_by, refl, sym, ap, ◌∙◌, arith, slice_get, length-append, subst}
 use Rattle.std.specs.Prelude.{slice_set, slice_index_or}
 use Rattle.std.proofs.lemmas.List.Sums.{sum_by-cons}
 use Rattle.asgi_types.specs.declared.end_kind.EndKind.{EndKind}
@@ -18,7 +18,7 @@ use Rattle.asgi_many.specs.declared.seat.Ended.{Ended}
 use Rattle.asgi_many.specs.declared.seat.Newcomer.{Newcomer}
 use Rattle.asgi_many.specs.declared.seat.Seat.{Seat}
 use Rattle.asgi_many.specs.declared.table.Table.{Table}
-use Rattle.asgi_many.specs.Seats.{EachOnce}
+use Rattle.asgi_many.specs.Seats.{EachOnce, Seating}
 use Rattle.asgi_many.specs.Standing.{Holds, IsAt, IsEmpty, IsServed, number_of}
 use Rattle.asgi_many.proofs.SeatLemmas as seats
 
@@ -33,12 +33,8 @@ pub nobody : {S : Type 0} (s : Slab S) → slab_len s ≡ 0 → (i : ℕ) → ge
 nobody s none = nobody_in s.slots none
 
 -- a value is written where one was
-pub written : {S : Type 0} (s : Slab S) (i : ℕ) (was is : S) → get s i ≡ Some was → Updates s (with_value s i is) i (Some is)
-written s i was is there = Updates-with_value s i is (rw there refl)
-
--- a slab with no slots has no value
-pub none_yet : {S : Type 0} (s : Slab S) → s.slots ≡ [] → slab_len s ≡ 0
-none_yet s empty = rw empty refl
+pub writes : {S : Type 0} (s : Slab S) (i : ℕ) (was is : S) → get s i ≡ Some was → Updates s (with_value s i is) i (Some is)
+writes s i was is there = Updates-with_value s i is (rw there refl)
 
 module _ {T C E X L : Type 0} (answers : T → List Incoming → List Outgoing → Option EndKind → Type 0) (conns : conn_end.Ghosts C) (ends : app_end.Ghosts E) (conn : X → C)
     (began : X → AppSide T E → Type 0) (promise : Promise) (line_state : L → LineState) (state : List (List ℕ × StateValue)) where
@@ -48,12 +44,6 @@ module _ {T C E X L : Type 0} (answers : T → List Incoming → List Outgoing �
 
   abbrev At : Limits → Newcomer L → Seat X L → Type 0
   At limits one seat = IsAt answers conns ends conn began promise line_state limits state one seat
-
-  pub begins : (table : Table X L) → table.seats.slots ≡ [] → table.came ≡ 0 → Now [] table []
-  begins table empty none = record {
-    counted = none;
-    seating = seats.begins number_of (At table.limits) (IsServed promise line_state table.limits state) (get table.seats) (nobody table.seats (none_yet table.seats empty));
-  }
 
   -- once nobody sits there, each has ended once
   pub all_ended : (came : List (Newcomer L)) (table : Table X L) (ended : List (Option (Ended L))) → Now came table ended → IsEmpty table
@@ -75,7 +65,7 @@ module _ {T C E X L : Type 0} (answers : T → List Incoming → List Outgoing �
     pub goes_on : (was is : Seat X L) → new.came ≡ old.came → get old.seats i ≡ Some was → new.seats ≡ with_value old.seats i is → is.number ≡ was.number
         → ((one : Newcomer L) → At old.limits one was → At old.limits one is) → Now came new ended
     goes_on was is next there written number moves =
-        let updates = written old.seats i was is there in
+        let updates = writes old.seats i was is there in
         record {
           counted = next ∙ holds.counted;
           seating = rw (same, written) (seats.goes_on number_of (At old.limits) (IsServed promise line_state old.limits state) came (get old.seats) (get (with_value old.seats i is)) ended i
@@ -88,8 +78,9 @@ module _ {T C E X L : Type 0} (answers : T → List Incoming → List Outgoing �
         → ((one : Newcomer L) → At old.limits one was → IsServed promise line_state old.limits state one end) → Now came new (slice_set ended end.number (Some end))
     ends_at was end next there gone others number kept = record {
       counted = next ∙ holds.counted;
-      seating = rw (same, number) (seats.ends number_of (At old.limits) (IsServed promise line_state old.limits state) came (get old.seats) (get new.seats) ended i
-          others holds.seating was end there gone kept);
+      seating = rw same (subst (λ (n : ℕ). Seating number_of (At old.limits) (IsServed promise line_state old.limits state) came (get new.seats) (slice_set ended n (Some end)))
+          (sym number) (seats.ends number_of (At old.limits) (IsServed promise line_state old.limits state) came (get old.seats) (get new.seats) ended i
+          others holds.seating was end there gone kept));
     }
 
     -- what has ended had not ended before, and is of the one that came under its number

@@ -10,7 +10,7 @@ turn-requires g c =
 
 pub free-requires : goal.free-requires
 free-requires g c =
-    let written = lemma.written c.args.self.now.seats c.args.at c.in-Some.seat.now c.turn.new.self (sym c.in-Some.ensures.value) in
+    let written = lemma.writes c.args.self.now.seats c.args.at c.in-Some.seat.now c.turn.new.self (sym c.in-Some.ensures.value) in
     rw written.changed c.in-Over.ensures.ended
 
 pub returns-in-Moved-clause-holds : goal.returns-in-Moved-clause-holds
@@ -21,7 +21,7 @@ returns-in-Moved-clause-holds g c came ended holds =
 pub returns-in-Moved-clause-turned : goal.returns-in-Moved-clause-turned
 returns-in-Moved-clause-turned g c =
     let there = sym c.in-Some.ensures.value in
-    let written = lemma.written c.args.self.now.seats c.args.at c.in-Some.seat.now c.turn.new.self there in
+    let written = lemma.writes c.args.self.now.seats c.args.at c.in-Some.seat.now c.turn.new.self there in
     rw (there, written.changed) (c.in-Moved.ensures.takes tt)
 
 pub returns-in-Idle-clause-holds : goal.returns-in-Idle-clause-holds
@@ -32,13 +32,13 @@ returns-in-Idle-clause-holds g c came ended holds =
 pub returns-in-Idle-clause-turned : goal.returns-in-Idle-clause-turned
 returns-in-Idle-clause-turned g c =
     let there = sym c.in-Some.ensures.value in
-    let written = lemma.written c.args.self.now.seats c.args.at c.in-Some.seat.now c.turn.new.self there in
+    let written = lemma.writes c.args.self.now.seats c.args.at c.in-Some.seat.now c.turn.new.self there in
     rw (there, written.changed) (c.in-Idle.ensures.takes tt)
 
 pub returns-in-Over-clause-holds : goal.returns-in-Over-clause-holds
 returns-in-Over-clause-holds g c came ended holds =
     let there = sym c.in-Some.ensures.value in
-    let written = lemma.written c.args.self.now.seats c.args.at c.in-Some.seat.now c.turn.new.self there in
+    let written = lemma.writes c.args.self.now.seats c.args.at c.in-Some.seat.now c.turn.new.self there in
     let end = rw written.changed at c.free.ensures.end in
     lemma.ends_at _ _ _ _ _ _ _ _ c.args.self.now _ c.args.at c.free.ensures.same.0 holds c.in-Some.seat.now c.free.result c.free.ensures.same.2 there c.free.ensures.free
     (λ j differs. c.free.ensures.others j differs ∙ written.others j differs) (end.0 ∙ c.turn.ensures.number)
@@ -47,7 +47,7 @@ returns-in-Over-clause-holds g c came ended holds =
 pub returns-in-Over-clause-over : goal.returns-in-Over-clause-over
 returns-in-Over-clause-over g c came ended holds =
     let there = sym c.in-Some.ensures.value in
-    let written = lemma.written c.args.self.now.seats c.args.at c.in-Some.seat.now c.turn.new.self there in
+    let written = lemma.writes c.args.self.now.seats c.args.at c.in-Some.seat.now c.turn.new.self there in
     let end = rw written.changed at c.free.ensures.end in
     lemma.over _ _ _ _ _ _ _ _ c.args.self.now c.args.self.now c.args.at refl holds c.in-Some.seat.now c.free.result there (end.0 ∙ c.turn.ensures.number)
     (λ one at. rw (end.3, end.2, end.1) (c.in-Over.ensures.served c.args.self.now.limits one at))
@@ -55,6 +55,6 @@ returns-in-Over-clause-over g c came ended holds =
 pub returns-in-Over-clause-turned : goal.returns-in-Over-clause-turned
 returns-in-Over-clause-turned g c =
     let there = sym c.in-Some.ensures.value in
-    let written = lemma.written c.args.self.now.seats c.args.at c.in-Some.seat.now c.turn.new.self there in
+    let written = lemma.writes c.args.self.now.seats c.args.at c.in-Some.seat.now c.turn.new.self there in
     let end = rw written.changed at c.free.ensures.end in
     (rw there (sym (end.0 ∙ c.turn.ensures.number)), c.free.ensures.free)
