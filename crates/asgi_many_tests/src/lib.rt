@@ -4,6 +4,8 @@
 #[cfg(test)]
 mod drawn;
 #[cfg(test)]
+mod held;
+#[cfg(test)]
 mod lines;
 #[cfg(test)]
 mod seats;

@@ -4,6 +4,7 @@ ghost use Rattle.asgi_many.specs.declared.seat.Ended.{Ended};
 ghost use Rattle.asgi_many.specs.declared.seat.Newcomer.{Newcomer};
 ghost use Rattle.asgi_many.specs.Standing.{Holds};
 
+use crate::held::{seat_of, table_of, turn_of};
 use crate::lines::newcomer;
 use asgi_apps::{Application, Hello};
 use asgi_conn::{Calls, Host, Inline, Line as AnyLine, Outcome, Runner};
@@ -65,6 +66,9 @@ fn one_that_finds_no_seat_comes_back(rt: HostRuntime) -> Result<(), Fail> {
     Ok(())
 }
 
+/// A line on which nothing comes.
+type Silent = Memory<Never>;
+
 /// Takes so many turns of a seat, or until its connection has ended.
 fn turns<X, A: Application, L: AnyLine, U: Runner<A::Task, Exchange = X>>(
     table: &mut Table<X, L>,
@@ -80,7 +84,7 @@ fn turns<X, A: Application, L: AnyLine, U: Runner<A::Task, Exchange = X>>(
         × Holds A.Task.answers U.Pipes.Conn.ConnEnd U.Pipes.App.AppEnd U.conn U.began (A.answers calls.new.app.now) L.state state.now came table.new ended }
 {
     for _turn in 0..many {
-        match table.turn(at, state, calls, runner) {
+        match turn_of(table, state, calls, runner, at) {
             Turned::Over(end) => return Some(end),
             Turned::NoOne => {}
             Turned::Moved => {}
@@ -109,25 +113,27 @@ fn are_given_up<H: Host, X: Drop, A: Application, U: Runner<A::Task, Exchange = 
     let mut calls = Calls::of(app);
     let mut limits = Limits::usual();
     limits.idle_turns = 5;
-    let mut table = Table::new::<A, U>(rt.alloc(), &limits, 2)?;
-    let Ok(first) = table.seat::<A, U>(&state, silent(rt)?) else {
+    let mut table = table_of::<X, A, Silent, U>(rt.alloc(), &limits, 2, &state, &calls)?;
+    let one = silent(rt)?;
+    let other = silent(rt)?;
+    let Ok(first) = seat_of::<X, A, Silent, U>(&mut table, &state, &calls, one) else {
         return Ok(false);
     };
-    let Ok(second) = table.seat::<A, U>(&state, silent(rt)?) else {
+    let Ok(second) = seat_of::<X, A, Silent, U>(&mut table, &state, &calls, other) else {
         return Ok(false);
     };
     let early = turns(&mut table, &state, &mut calls, runner, first, 5);
-    let other = turns(&mut table, &state, &mut calls, runner, second, 3);
+    let between = turns(&mut table, &state, &mut calls, runner, second, 3);
     let at_limit = turns(&mut table, &state, &mut calls, runner, first, 1);
     let after = turns(&mut table, &state, &mut calls, runner, first, 9);
     let left = table.len();
     let last = turns(&mut table, &state, &mut calls, runner, second, 3);
-    let none = early.is_none() && other.is_none() && after.is_none() && left == 1;
+    let none = early.is_none() && between.is_none() && after.is_none() && left == 1;
     Ok(none && is_silent(&at_limit, 0, 5) && is_silent(&last, 1, 5) && table.is_empty())
 }
 
 /// One that says nothing.
-fn silent<H: AllocGlobal>(rt: &H) -> io::Result<Newcomer<Memory<Never>>> {
+fn silent<H: AllocGlobal>(rt: &H) -> io::Result<Newcomer<Silent>> {
     Ok(Newcomer {
         line: line_of(rt, Never)?,
         client: None,

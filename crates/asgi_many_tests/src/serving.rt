@@ -4,6 +4,7 @@ ghost use Rattle.asgi_many.specs.declared.seat.Ended.{Ended};
 ghost use Rattle.asgi_many.specs.declared.seat.Newcomer.{Newcomer};
 ghost use Rattle.asgi_many.specs.Standing.{Holds};
 
+use crate::held::{seat_of, table_of, turn_of};
 use crate::lines::{Input, Line, newcomer};
 use asgi_apps::Application;
 use asgi_conn::{Calls, Host, Inline, Line as AnyLine, Runner};
@@ -116,14 +117,14 @@ fn step<X, A: Application, L: AnyLine + Drop, U: Runner<A::Task, Exchange = X>>(
         × Holds A.Task.answers U.Pipes.Conn.ConnEnd U.Pipes.App.AppEnd U.conn U.began (A.answers calls.new.app.now) L.state state.now came table.new ended }
 {
     if drawn % 4 != 0 {
-        let bound = table.bound() as u64;
-        let at = ((drawn >> 8) % bound.saturating_add(2).max(1)) as usize;
-        return table.turn(at, state, calls, runner);
+        let many = (table.bound() as u64).saturating_add(2);
+        let at = ((drawn >> 8) % many) as usize;
+        return turn_of(table, state, calls, runner, at);
     }
     let Some(newcomer) = waiting.take() else {
         return Turned::NoOne;
     };
-    match table.seat::<A, U>(state, newcomer) {
+    match seat_of::<X, A, L, U>(table, state, calls, newcomer) {
         Ok(_) => Turned::NoOne,
         Err(back) => {
             *waiting = Some(back);
@@ -160,7 +161,7 @@ fn run_by<H: Host, X: Drop, A: Application, U: Runner<A::Task, Exchange = X>>(
     let state = State::new(rt.alloc());
     let mut calls = Calls::of(app);
     let mut draws = draws;
-    let mut table = Table::new::<A, U>(rt.alloc(), limits, places)?;
+    let mut table = table_of::<X, A, Line, U>(rt.alloc(), limits, places, &state, &calls)?;
     let mut run = Ran::new(rt.alloc(), inputs.len())?;
     let mut arrivals = Arrivals {
         inputs,
