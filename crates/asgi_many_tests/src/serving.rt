@@ -34,16 +34,16 @@ impl Draws {
 
 /// What a run came to.
 #[derive(Drop)]
-pub struct Ran {
+pub struct Ran<L> {
     /// What ended, at the places of the numbers.
-    pub ends: Vec<Option<Ended<Line>>>,
+    pub ends: Vec<Option<Ended<L>>>,
     /// How often a seat was named in which nobody sat.
     pub nobody: u64,
     /// Two ended under one number, or one under the number of none.
     pub is_wrong: bool,
 }
 
-impl Ran {
+impl<L: Drop> Ran<L> {
     /// Nothing has ended of so many.
     fn new(alloc: Global, many: usize) -> Result<Self, AllocError> {
         let mut ends = Vec::new(alloc);
@@ -57,7 +57,7 @@ impl Ran {
         })
     }
 
-    fn take(&mut self, turned: Turned<Line>) {
+    fn take(&mut self, turned: Turned<L>) {
         match turned {
             Turned::NoOne => self.nobody = self.nobody.saturating_add(1),
             Turned::Moved => {}
@@ -66,7 +66,7 @@ impl Ran {
         }
     }
 
-    fn put(&mut self, end: Ended<Line>) {
+    fn put(&mut self, end: Ended<L>) {
         let Some(place) = self.ends.get_mut(end.number as usize) else {
             self.is_wrong = true;
             return;
@@ -79,27 +79,13 @@ impl Ran {
     }
 }
 
-/// The inputs of all that come, and who waits for a seat.
-#[derive(Drop)]
-struct Arrivals<'a> {
-    inputs: &'a [Input],
-    next: usize,
-    waiting: Option<Newcomer<Line>>,
-}
-
-impl Arrivals<'_> {
-    /// Has the next one wait, if nobody does.
-    fn wait<H: AllocGlobal>(&mut self, rt: &H) -> Result<(), AllocError> {
-        if self.waiting.is_some() {
-            return Ok(());
-        }
-        let Some(input) = self.inputs.get(self.next) else {
-            return Ok(());
-        };
-        self.waiting = Some(newcomer(rt, input, 1_000)?);
-        self.next = self.next.saturating_add(1);
-        Ok(())
+/// Those that come for these inputs, the last one first.
+fn comers_of<H: AllocGlobal>(rt: &H, inputs: &[Input]) -> Result<Vec<Newcomer<Line>>, AllocError> {
+    let mut comers = Vec::new(rt.alloc());
+    for input in inputs.iter().rev() {
+        comers.push(newcomer(rt, input, 1_000)?)?;
     }
+    Ok(comers)
 }
 
 /// One that waits is given a seat, or waits on if the table is full; or a seat takes a turn, which may be free or not there.
@@ -141,47 +127,41 @@ pub fn run<H: Host, A: Application>(
     inputs: &[Input],
     places: usize,
     draws: Draws,
-) -> io::Result<Ran> {
+) -> io::Result<Ran<Line>> {
+    let comers = comers_of(rt, inputs)?;
     let solo = Solo::new(rt, Doorbell::spinning())?;
     let mut runner = Inline::new(solo.begin());
-    let ran = run_by(rt, app, limits, inputs, places, draws, &mut runner);
+    let ran = run_by(rt.alloc(), app, limits, comers, places, draws, &mut runner);
     runner.end();
     ran
 }
 
-fn run_by<H: Host, X: Drop, A: Application, U: Runner<A::Task, Exchange = X>>(
-    rt: &H,
+fn run_by<X: Drop, A: Application, L: AnyLine + Drop, U: Runner<A::Task, Exchange = X>>(
+    alloc: Global,
     app: &A,
     limits: &Limits,
-    inputs: &[Input],
+    comers: Vec<Newcomer<L>>,
     places: usize,
     draws: Draws,
     runner: &mut U,
-) -> io::Result<Ran> {
-    let state = State::new(rt.alloc());
+) -> io::Result<Ran<L>> {
+    let state = State::new(alloc);
     let mut calls = Calls::of(app);
     let mut draws = draws;
-    let mut table = table_of::<X, A, Line, U>(rt.alloc(), limits, places, &state, &calls)?;
-    let mut run = Ran::new(rt.alloc(), inputs.len())?;
-    let mut arrivals = Arrivals {
-        inputs,
-        next: 0,
-        waiting: None,
-    };
+    let mut comers = comers;
+    let mut ran = Ran::new(alloc, comers.len())?;
+    let mut table = table_of::<X, A, L, U>(alloc, limits, places, &state, &calls)?;
+    let mut waiting = None;
     for _step in 0..STEPS {
-        arrivals.wait(rt)?;
-        if arrivals.waiting.is_none() && table.is_empty() {
-            return Ok(run);
+        if waiting.is_none() {
+            waiting = comers.pop();
         }
-        let turned = step(
-            &mut table,
-            &state,
-            &mut calls,
-            runner,
-            &mut arrivals.waiting,
-            draws.draw(),
-        );
-        run.take(turned);
+        if waiting.is_none() && table.is_empty() {
+            return Ok(ran);
+        }
+        let drawn = draws.draw();
+        let turned = step(&mut table, &state, &mut calls, runner, &mut waiting, drawn);
+        ran.take(turned);
     }
     Err(io::Error::from(ErrorKind::TimedOut))
 }
