@@ -67,7 +67,7 @@ fn one_that_finds_no_seat_comes_back(rt: HostRuntime) -> Result<(), Fail> {
 }
 
 /// A line on which nothing comes.
-type Silent = Memory<Never>;
+type Mute = Memory<Never>;
 
 /// Takes so many turns of a seat, or until its connection has ended.
 fn turns<X, A: Application, L: AnyLine, U: Runner<A::Task, Exchange = X>>(
@@ -113,13 +113,13 @@ fn are_given_up<H: Host, X: Drop, A: Application, U: Runner<A::Task, Exchange = 
     let mut calls = Calls::of(app);
     let mut limits = Limits::usual();
     limits.idle_turns = 5;
-    let mut table = table_of::<X, A, Silent, U>(rt.alloc(), &limits, 2, &state, &calls)?;
+    let mut table = table_of::<X, A, Mute, U>(rt.alloc(), &limits, 2, &state, &calls)?;
     let one = silent(rt)?;
     let other = silent(rt)?;
-    let Ok(first) = seat_of::<X, A, Silent, U>(&mut table, &state, &calls, one) else {
+    let Ok(first) = seat_of::<X, A, Mute, U>(&mut table, &state, &calls, one) else {
         return Ok(false);
     };
-    let Ok(second) = seat_of::<X, A, Silent, U>(&mut table, &state, &calls, other) else {
+    let Ok(second) = seat_of::<X, A, Mute, U>(&mut table, &state, &calls, other) else {
         return Ok(false);
     };
     let early = turns(&mut table, &state, &mut calls, runner, first, 5);
@@ -133,7 +133,7 @@ fn are_given_up<H: Host, X: Drop, A: Application, U: Runner<A::Task, Exchange = 
 }
 
 /// One that says nothing.
-fn silent<H: AllocGlobal>(rt: &H) -> io::Result<Newcomer<Silent>> {
+fn silent<H: AllocGlobal>(rt: &H) -> io::Result<Newcomer<Mute>> {
     Ok(Newcomer {
         line: line_of(rt, Never)?,
         client: None,
