@@ -375,6 +375,9 @@ class Served:
         self.ran.kill()
         self.ran.communicate()
 
+    def connect(self):
+        return http.client.HTTPConnection("127.0.0.1", self.port, timeout=SECONDS)
+
     def ended(self):
         """What it printed, what it wrote to the log after the line that says where it listens, and its status, once it has ended."""
         output, errors = self.ran.communicate(timeout=SECONDS)
@@ -437,6 +440,60 @@ class Guide(unittest.TestCase):
         with Served("asgi_guide_example", 3, "counts") as served:
             for number in (1, 2, 3):
                 self.assertEqual(self.curl(served), ("200", "text/plain; charset=utf-8", f"request {number}\n"))
+            self.assertEqual(served.ended(), self.ENDED)
+
+    def asked(self, line, path="/"):
+        """The status and the content of the response to one more request of a connection."""
+        line.request("GET", path)
+        answer = line.getresponse()
+        return answer.status, answer.read().decode()
+
+    def test_two_clients_at_once_get_each_number_once(self):
+        def client(found):
+            line = served.connect()
+            found += [self.asked(line) for _ in range(50)]
+            line.close()
+
+        with Served("asgi_guide_example", 2, "counts") as served:
+            found = [[], []]
+            clients = [threading.Thread(target=client, args=(it,)) for it in found]
+            for it in clients:
+                it.start()
+            for it in clients:
+                it.join(SECONDS)
+            self.assertEqual(sorted(found[0] + found[1]), sorted((200, f"request {number}\n") for number in range(1, 101)))
+            # Of two requests of one client the later one has the larger number.
+            for it in found:
+                self.assertEqual(it, sorted(it, key=lambda found: int(found[1].split()[1])))
+            self.assertEqual(served.ended(), self.ENDED)
+
+    def test_a_pool_of_one_is_busy_until_what_was_taken_is_given_back(self):
+        with Served("asgi_guide_example", 2, "pool") as served:
+            slow, quick = served.connect(), served.connect()
+            # The question of the first client takes three seconds; the second one asks until it finds the pool busy with that.
+            slow.request("GET", "/3000")
+            wait_for(lambda: self.asked(quick, "/0") == (503, ""), "the pool is never busy")
+            answer = slow.getresponse()
+            self.assertEqual(answer.status, 200)
+            number = int(answer.read().split()[1])
+            # It is free again, and the same value as before.
+            self.assertEqual(self.asked(quick, "/0"), (200, f"question {number + 1}\n"))
+            self.assertEqual(self.asked(slow, "/1"), (200, f"question {number + 2}\n"))
+            slow.close()
+            quick.close()
+            self.assertEqual(served.ended(), self.ENDED)
+
+    def test_a_cache_computes_each_answer_once_and_keeps_a_hundred(self):
+        with Served("asgi_guide_example", 2, "cache") as served:
+            first = served.connect()
+            for path, number in (("/a", 1), ("/b", 2), ("/a", 1)):
+                self.assertEqual(self.asked(first, path), (200, f"answer {number}: {path}\n"))
+            first.close()
+            # The other client gets what was computed for the first one. Of 101 answers the one that was asked for longest ago is gone.
+            other = served.connect()
+            for path, number in (("/b", 2), ("/a", 1), *((f"/{it}", it) for it in range(3, 102)), ("/a", 1), ("/101", 101), ("/b", 102)):
+                self.assertEqual(self.asked(other, path), (200, f"answer {number}: {path}\n"))
+            other.close()
             self.assertEqual(served.ended(), self.ENDED)
 
     @needs("curl")

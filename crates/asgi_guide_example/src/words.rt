@@ -9,6 +9,8 @@ use std::rt::Env;
 pub enum App {
     Orders,
     Counts,
+    Pool,
+    Cache,
     Session,
     Greets,
 }
@@ -26,6 +28,8 @@ fn app_named(name: &str) -> Option<App> {
     match name {
         "orders" => Some(App::Orders),
         "counts" => Some(App::Counts),
+        "pool" => Some(App::Pool),
+        "cache" => Some(App::Cache),
         "session" => Some(App::Session),
         "greets" => Some(App::Greets),
         _ => None,
@@ -36,7 +40,7 @@ fn app_named(name: &str) -> Option<App> {
 pub fn usage<H: Print>(rt: &H) -> ExitCode {
     match writeln!(
         io::writer(rt),
-        "usage: asgi_guide_example PORT COUNT orders|counts|session|greets"
+        "usage: asgi_guide_example PORT COUNT orders|counts|pool|cache|session|greets"
     ) {
         Ok(()) => ExitCode::from(2),
         Err(_) => ExitCode::from(5),
