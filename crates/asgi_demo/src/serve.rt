@@ -55,7 +55,7 @@ pub fn serve_on<
     let Ok((here, _there)) = Resting::pair(rt.alloc()) else {
         return device_fault(errors);
     };
-    let Ok(list) = stations::<T, H>(*rt, workers) else {
+    let Ok(list) = stations::<T, A, H>(*rt, workers) else {
         return device_fault(errors);
     };
     let mut pause = Napping::new(*rt, here);
@@ -175,15 +175,15 @@ fn follow<
             ending_of(served, Stop::Stopped)
         }
         Start::Failed(message) => {
-            end_stations(list);
+            end_stations::<A, BesideStation<T, H>>(list);
             Ending::StartupFailed(message)
         }
         Start::Idle(_turns) => {
-            end_stations(list);
+            end_stations::<A, BesideStation<T, H>>(list);
             Ending::NoStartup
         }
         Start::NoMemory => {
-            end_stations(list);
+            end_stations::<A, BesideStation<T, H>>(list);
             Ending::DeviceFault
         }
     }
@@ -272,7 +272,7 @@ fn serve_printing<
     } = serve_all(
         rt, limits, state, app, &Nobody, listener, workers, list, printer,
     );
-    end_stations(list);
+    end_stations::<A, BesideStation<T, H>>(list);
     let well = is_well(end, teller.told, listener.failed());
     (well, teller)
 }

@@ -2,6 +2,7 @@
 #![tactic(auto)]
 
 mod ending;
+mod engines;
 mod fault;
 mod returning;
 mod serve;
@@ -17,7 +18,9 @@ pub use asgi_conn::{Host, Outcome, Report};
 pub use asgi_handlers::{Handled, HandledTask, Handler, Held, Reply, Request, Shared, ask};
 pub use asgi_pipes::{AppEnd, EndKind, Sent};
 pub use asgi_routes::{Chain, Empty, Endpoint, Endpoints, Method, RouteError, Routes};
-pub use asgi_server::{Accepts, Listener, Nobody, OnEnd, Teller, Workers};
+pub use asgi_server::{
+    Accepts, Engine, InlineStation, Listener, Nobody, OnEnd, Teller, Threadless, Workers,
+};
 pub use asgi_talks::{
     Answer, Both, BothTask, Close, Hosted, HostedTalker, Hushed, Messages, Opened, Talk, Talked,
     TalkedTask, Talker, Tells, Told,
@@ -29,9 +32,10 @@ pub use asgi_types::{
 };
 pub use asgi_ws::Line;
 pub use ending::Ending;
+pub use engines::{InThread, InWorker};
 pub use fault::{ListenFault, ServeError};
 pub use futures::task::{Context, Poll};
-pub use serve::serve_on;
+pub use serve::{serve_in_worker_on, serve_on};
 pub use server::Server;
 pub use stop::Stop;
 pub use tellers::{LogLines, Quiet};

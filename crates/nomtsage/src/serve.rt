@@ -1,17 +1,19 @@
 //! An application between its start and its stop, and the connections in between.
 ghost use Rattle.std.specs.Prelude.{◌≡◌, All, vec_len};
+ghost use Rattle.asgi_server.specs.Connections.{PromisesWithin};
 ghost use Rattle.nomtsage.specs.Serving.{LivesOrNot, ServesEach, ServesOn, around};
 ghost use Rattle.nomtsage.specs.private.Following.{FollowsStart};
 
 use crate::ending::{Ending, Served, ending_of, served_of, without_stations};
+use crate::engines::InWorker;
 use asgi_apps::{AppTask, Application};
 use asgi_conn::{Host, Report};
 use asgi_io::Pause;
 use asgi_kept::{Napping, Resting};
 use asgi_lifespan::{Lifespan, Start, Stop};
 use asgi_server::{
-    Accepts, BesideStation, Listener, OnEnd, Shared, Teller, Workers, end_stations, serve_all,
-    stations,
+    Accepts, Engine, Listener, OnEnd, Shared, Teller, Threadless, Workers, end_stations, serve_all,
+    stations, threadless_stations,
 };
 use asgi_types::{Limits, State};
 use asgi_ws::Line;
@@ -49,7 +51,7 @@ pub fn serve_on<
     let Ok((here, _there)) = Resting::pair(rt.alloc()) else {
         return (Ending::NoMemory, teller);
     };
-    let list = match stations::<T, H>(*rt, workers) {
+    let list = match stations::<T, A, H>(*rt, workers) {
         Ok(list) => list,
         Err(why) => return (without_stations(why), teller),
     };
@@ -59,16 +61,59 @@ pub fn serve_on<
     )
 }
 
-/// The same, once there is what runs a task, and a station for each worker.
+/// The same with each task run in the thread of its connection's worker: for applications that never block, since a task that
+/// does holds up what is written to its client. A task need be neither `Send` nor `'static`. Each worker has such an engine.
+pub fn serve_in_worker_on<
+    H: Host + Sync,
+    T: AppTask,
+    A: Application<Task = T> + Send + Sync,
+    E: OnEnd + Send + Sync,
+    L: Line + Drop + Send,
+    N: Accepts + Listener<L = L> + Send,
+    K: Teller<Report> + Drop + Send,
+    G: Threadless<A, H> + Drop + Send,
+>(
+    rt: &H,
+    limits: &Limits,
+    workers: Workers,
+    app: &A,
+    on_end: &E,
+    listener: &mut N,
+    teller: K,
+    _engines: &InWorker<G>,
+) -> (Ending, K)
+    ensures serves { ServesOn L.state K.tells (A.answers app.now) limits.now workers.count (N.has_failed listener.new)
+        (around (N.Listener.own.answers listener.old) teller)
+        (around (N.Listener.own.answers listener.new) result.1) result.0 }
+    ensures asked { N.Listener.own.asked listener.new ≡ N.Listener.own.asked listener.old }
+{
+    let Ok(solo) = Solo::new(rt, Doorbell::spinning()) else {
+        return (Ending::NoMemory, teller);
+    };
+    let Ok((here, _there)) = Resting::pair(rt.alloc()) else {
+        return (Ending::NoMemory, teller);
+    };
+    let list = match threadless_stations::<A, H, G>(*rt, workers) {
+        Ok(list) => list,
+        Err(why) => return (without_stations(why), teller),
+    };
+    let mut pause = Napping::new(*rt, here);
+    run(
+        rt, limits, workers, app, on_end, listener, &solo, list, &mut pause, teller,
+    )
+}
+
+/// The same, once there is what runs a task, and an engine for each worker.
 fn run<
     H: Host + Sync,
-    T: AppTask + Send + 'static,
+    T: AppTask,
     A: Application<Task = T> + Send + Sync,
     E: OnEnd + Send + Sync,
     L: Line + Drop + Send,
     N: Accepts + Listener<L = L> + Send,
     P: Pause,
     K: Teller<Report> + Drop + Send,
+    G: Engine<A> + Drop + Send,
 >(
     rt: &H,
     limits: &Limits,
@@ -77,11 +122,12 @@ fn run<
     on_end: &E,
     listener: &mut N,
     solo: &Solo,
-    list: Vec<BesideStation<T, H>>,
+    list: Vec<G>,
     pause: &mut P,
     teller: K,
 ) -> (Ending, K)
-    requires { (vec_len list ≡ workers.count) × All (λ s. s.pause.count ≡ 0) list.items }
+    requires fresh { (vec_len list ≡ workers.count) × All (λ s. G.pauses s ≡ 0) list.items }
+    requires within { PromisesWithin (G.answers app.now) (A.answers app.now) }
     ensures runs { LivesOrNot L.state K.tells (A.answers app.now) limits.now workers.count (N.has_failed listener.new)
         (around (N.Listener.own.answers listener.old) teller)
         (around (N.Listener.own.answers listener.new) result.1)
@@ -99,13 +145,14 @@ fn run<
 /// Starts the application, serves, and stops it.
 fn live<
     H: Host + Sync,
-    T: AppTask + Send + 'static,
+    T: AppTask,
     A: Application<Task = T> + Send + Sync,
     E: OnEnd + Send + Sync,
     L: Line + Drop + Send,
     N: Accepts + Listener<L = L> + Send,
     P: Pause,
     K: Teller<Report> + Drop + Send,
+    G: Engine<A> + Drop + Send,
 >(
     rt: &H,
     limits: &Limits,
@@ -114,11 +161,12 @@ fn live<
     on_end: &E,
     listener: &mut N,
     cx: &mut Context<'_>,
-    list: Vec<BesideStation<T, H>>,
+    list: Vec<G>,
     pause: &mut P,
     teller: K,
 ) -> (Ending, K)
-    requires { (vec_len list ≡ workers.count) × All (λ s. s.pause.count ≡ 0) list.items }
+    requires fresh { (vec_len list ≡ workers.count) × All (λ s. G.pauses s ≡ 0) list.items }
+    requires within { PromisesWithin (G.answers app.now) (A.answers app.now) }
     ensures lives { LivesOrNot L.state K.tells (A.answers app.now) limits.now workers.count (N.has_failed listener.new)
         (around (N.Listener.own.answers listener.old) teller)
         (around (N.Listener.own.answers listener.new) result.1)
@@ -134,13 +182,14 @@ fn live<
 /// What comes after the start, by its answer: serves and stops the application if it started.
 fn follow<
     H: Host + Sync,
-    T: AppTask + Send + 'static,
+    T: AppTask,
     A: Application<Task = T> + Send + Sync,
     E: OnEnd + Send + Sync,
     L: Line + Drop + Send,
     N: Accepts + Listener<L = L> + Send,
     P: Pause,
     K: Teller<Report> + Drop + Send,
+    G: Engine<A> + Drop + Send,
 >(
     rt: &H,
     limits: &Limits,
@@ -150,11 +199,12 @@ fn follow<
     answer: Start<T>,
     listener: &mut N,
     cx: &mut Context<'_>,
-    list: Vec<BesideStation<T, H>>,
+    list: Vec<G>,
     pause: &mut P,
     teller: K,
 ) -> (Ending, K)
-    requires { (vec_len list ≡ workers.count) × All (λ s. s.pause.count ≡ 0) list.items }
+    requires fresh { (vec_len list ≡ workers.count) × All (λ s. G.pauses s ≡ 0) list.items }
+    requires within { PromisesWithin (G.answers app.now) (A.answers app.now) }
     ensures follows { FollowsStart L.state K.tells (A.answers app.now) limits.now workers.count (N.has_failed listener.new) answer
         (around (N.Listener.own.answers listener.old) teller)
         (around (N.Listener.own.answers listener.new) result.1)
@@ -176,37 +226,31 @@ fn follow<
             (ending_of(served, Stop::Stopped), told)
         }
         Start::Failed(message) => {
-            end_stations(list);
+            end_stations::<A, G>(list);
             (Ending::StartupFailed(message), teller)
         }
         Start::Idle(_turns) => {
-            end_stations(list);
+            end_stations::<A, G>(list);
             (Ending::NoStartup, teller)
         }
-        Start::NoMemory => (unserved(Ending::NoMemory, list), teller),
+        Start::NoMemory => {
+            let ending = Ending::NoMemory;
+            end_stations::<A, G>(list);
+            (ending, teller)
+        }
     }
-}
-
-/// Ends the stations, which have served nothing.
-fn unserved<H: Host, T: AppTask + Send + 'static>(
-    ending: Ending,
-    list: Vec<BesideStation<T, H>>,
-) -> Ending
-    ensures { result ≡ ending }
-{
-    end_stations(list);
-    ending
 }
 
 /// Serves the connections. The teller gets a report of each, and is returned with how they were served.
 fn serve_each<
     H: Host + Sync,
-    T: AppTask + Send + 'static,
+    T: AppTask,
     A: Application<Task = T> + Send + Sync,
     E: OnEnd + Send + Sync,
     L: Line + Drop + Send,
     N: Accepts + Listener<L = L> + Send,
     K: Teller<Report> + Drop + Send,
+    G: Engine<A> + Drop + Send,
 >(
     rt: &H,
     limits: &Limits,
@@ -215,10 +259,11 @@ fn serve_each<
     app: &A,
     on_end: &E,
     listener: &mut N,
-    list: Vec<BesideStation<T, H>>,
+    list: Vec<G>,
     teller: K,
 ) -> (Served, K)
-    requires { (vec_len list ≡ workers.count) × All (λ s. s.pause.count ≡ 0) list.items }
+    requires fresh { (vec_len list ≡ workers.count) × All (λ s. G.pauses s ≡ 0) list.items }
+    requires within { PromisesWithin (G.answers app.now) (A.answers app.now) }
     ensures served { ServesEach L.state K.tells (A.answers app.now) limits.now workers.count (N.has_failed listener.new) state.now
         (around (N.Listener.own.answers listener.old) teller)
         (around (N.Listener.own.answers listener.new) result.1) result.0 }
@@ -232,7 +277,7 @@ fn serve_each<
     } = serve_all(
         rt, limits, state, app, on_end, listener, workers, list, teller,
     );
-    end_stations(list);
+    end_stations::<A, G>(list);
     let how = served_of(end, listener.failed());
     (how, told)
 }

@@ -29,4 +29,4 @@ pub returns-in-NoMemory-clause-follows : goal.returns-in-NoMemory-clause-follows
 returns-in-NoMemory-clause-follows g c =
     as_answered g.L.Line.state _ (g.A.Application.answers c.args.app.now) c.args.limits.now c.args.workers.count _ g.T.AppTask _ _ (g.P.Pause.count c.args.pause.now) _ _
     c.args.answer _ c.in-NoMemory.is
-    (refl, refl, c.unserved.ensures)
+    (refl, refl, refl)
