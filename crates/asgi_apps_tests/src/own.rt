@@ -113,14 +113,17 @@ fn an_application_of_ones_own_needs_no_proof(rt: HostRuntime) -> Result<(), Fail
     check(&rt, Counts(3), COUNTS)
 }
 
-/// Responds with a field of this value, if a field may have it.
+/// Responds to a request with a field of this value, if a field may have it.
 #[derive(Clone, Copy, Debug)]
 struct Shows(&'static str);
 
 impl Application for Shows {
     type Task = Says;
 
-    fn call(&self, alloc: Global, _scope: &Scope) -> Result<Says, AppFault> {
+    fn call(&self, alloc: Global, scope: &Scope) -> Result<Says, AppFault> {
+        let Scope::Http(_) = scope else {
+            return Err(AppFault::Failed);
+        };
         let mut headers = Headers::new(alloc);
         headers.push(b"X-A", self.0.as_bytes())?;
         let mut says = Says::with_room(alloc, Kind::Http, 2)?;

@@ -66,10 +66,8 @@ impl Piece {
         make_ready(&mut self.bytes, alloc)?;
         let read = line.read_some(&mut self.bytes);
         let answer = answer_of(&read, PIECE);
-        match take_in(requests, input, answer, &self.bytes) {
-            Ok(()) => Ok(answer.turn()),
-            Err(e) => Err(e),
-        }
+        take_in(requests, input, answer, &self.bytes)?;
+        Ok(answer.turn())
     }
 }
 

@@ -1,9 +1,12 @@
-//! Applications that send very much at once: many events, and one of 64 MiB. Each is served with both runners.
-use asgi_apps::{AppFault, Application, Says};
+//! Applications that send very much: 10,000 events, each as soon as there is a place for it, and one of 64 MiB. Each is
+//! served with both runners.
+use asgi_apps::{AppFault, AppTask, Application};
 use asgi_conn::{Host, Outcome};
 use asgi_fakes::texts::{GET, LAST_CHUNK, PLAIN_HEAD};
 use asgi_fakes::{Memory, Pieces, Way, line_of, serve, text_of};
-use asgi_types::{Headers, Kind, Limits, Octets, Outgoing, Scope};
+use asgi_pipes::{AppEnd, Sent};
+use asgi_types::{Headers, Limits, Octets, Outgoing, Scope};
+use futures::task::{Context, Poll};
 use std::alloc::{AllocError, Global};
 use std::io;
 use std::test::Fail;
@@ -58,26 +61,68 @@ fn last_body(alloc: Global) -> Outgoing {
     }
 }
 
-fn add_bodies(says: &mut Says, alloc: Global, floods: Floods) -> Result<(), AllocError> {
-    for _event in 0..floods.events {
-        says.add(body(alloc, floods)?)?;
+fn start(alloc: Global) -> Outgoing {
+    Outgoing::ResponseStart {
+        status: 200,
+        headers: Headers::new(alloc),
+        trailers: false,
     }
-    says.add(last_body(alloc))
+}
+
+#[derive(Drop)]
+struct FloodsTask {
+    alloc: Global,
+    floods: Floods,
+    has_started: bool,
+    /// How many events are left to send, without the start and the last one.
+    left: usize,
 }
 
 impl Application for Floods {
-    type Task = Says;
+    type Task = FloodsTask;
 
-    fn call(&self, alloc: Global, _scope: &Scope) -> Result<Says, AppFault> {
-        let mut says = Says::with_room(alloc, Kind::Http, self.events)?;
-        says.add(Outgoing::ResponseStart {
-            status: 200,
-            headers: Headers::new(alloc),
-            trailers: false,
-        })?;
-        add_bodies(&mut says, alloc, *self)?;
-        Ok(says)
+    fn call(&self, alloc: Global, _scope: &Scope) -> Result<FloodsTask, AppFault> {
+        Ok(FloodsTask {
+            alloc,
+            floods: *self,
+            has_started: false,
+            left: self.events,
+        })
     }
+}
+
+impl FloodsTask {
+    /// The event that comes next.
+    fn next(&self) -> Result<Outgoing, AllocError> {
+        if !self.has_started {
+            return Ok(start(self.alloc));
+        }
+        if self.left == 0 {
+            return Ok(last_body(self.alloc));
+        }
+        body(self.alloc, self.floods)
+    }
+}
+
+impl AppTask for FloodsTask {
+    fn poll<E: AppEnd>(&mut self, cx: &mut Context<'_>, end: &mut E) -> Poll<Result<(), AppFault>> {
+        let event = match self.next() {
+            Ok(event) => event,
+            Err(e) => return Poll::Ready(Err(AppFault::NoMemory(e))),
+        };
+        match end.poll_send(cx, event) {
+            Sent::Done => {
+                self.left = self.left.saturating_sub(self.has_started as usize);
+                self.has_started = true;
+                cx.yield_now()
+            }
+            Sent::Full(_) => Poll::Pending,
+            Sent::Ignored => Poll::Ready(Ok(())),
+            Sent::Refused(_, _) => Poll::Ready(Err(AppFault::Failed)),
+        }
+    }
+
+    ghost keeps = { λ _ _ _ _ _. tt };
 }
 
 /// The text of that (RFC 9112, 7.1).
