@@ -1,6 +1,6 @@
 // A library for LD_PRELOAD: some calls of a kind fail, as a system does at a bad moment.
 //
-// FAIL_CALL names the call: accept, setsockopt (where it turns TCP_NODELAY on), getsockname, or pthread_create. FAIL_ERROR is the
+// FAIL_CALL names the call: socket, accept, setsockopt (where it turns TCP_NODELAY on), getsockname, or pthread_create. FAIL_ERROR is the
 // number of its error, FAIL_TIMES how many calls fail, 1 where it is not there, and FAIL_AFTER behind how many, 0 where it is not
 // there.
 #define _GNU_SOURCE
@@ -30,6 +30,14 @@ static int fails(const char *call)
     made++;
     errno = atoi(error);
     return 1;
+}
+
+int socket(int domain, int type, int protocol)
+{
+    static int (*next)(int, int, int);
+    if (!next)
+        next = (int (*)(int, int, int))dlsym(RTLD_NEXT, "socket");
+    return fails("socket") ? -1 : next(domain, type, protocol);
 }
 
 int accept4(int listener, struct sockaddr *address, socklen_t *size, int flags)

@@ -2,7 +2,7 @@
 """What may happen to the built program as a server: calls of the system that fail, clients that take nothing, and signals.
 
 Usage: faults.py PROGRAM [TEST..], or faults.py --edits [NAME..]. The last line is 'N passed, M failed', and the status is 0
-only with none failed.
+only with none failed. The program of `crates/nomtsage_example` is tried too.
 Calls fail by a library that is preloaded (tests/fail_once.c), which gcc builds here, and descriptors are taken away by a
 limit of the system. What accept(2) says of its errors is the source of the first table. The clients are sockets of this
 script and Python's `http.client`. Each server is started by its test, and has ended at its end.
@@ -53,12 +53,16 @@ MEBIBYTE = 1 << 20
 PING = b"\x89\xfd" + bytes(4) + bytes(125)
 
 
+def failing(call, error, times=1, after=0):
+    """The variables by which so many calls of a program fail, after so many that do not."""
+    return {"LD_PRELOAD": LIBRARY, "FAIL_CALL": call, "FAIL_ERROR": str(error), "FAIL_TIMES": str(times), "FAIL_AFTER": str(after)}
+
+
 class Failing(Server):
     """A server some of whose calls fail."""
 
     def __init__(self, app, count=1, call="", error=0, times=1, after=0, workers=None):
-        given = {"LD_PRELOAD": LIBRARY, "FAIL_CALL": call, "FAIL_ERROR": str(error), "FAIL_TIMES": str(times), "FAIL_AFTER": str(after)}
-        super().__init__(app, count, env=given, workers=workers)
+        super().__init__(app, count, env=failing(call, error, times, after), workers=workers)
 
 
 def ask(server):
@@ -153,6 +157,46 @@ class Faults(unittest.TestCase):
                 line.shutdown(socket.SHUT_WR)
                 self.assertTrue(is_greeted(read_all(line)))
             self.assertEqual(server.ended(), (["1 1 finished", "2 1 finished"], "", 0))
+
+
+class Library(unittest.TestCase):
+    """What a program over `nomtsage` says, and how it ends, where calls of the system fail: that of `crates/nomtsage_example`."""
+
+    def ends(self, said, call, error, app="hello", **how):
+        """Asserts that it ends by itself with this line, after the one that says where it listens if it could, and the status 5."""
+        with servers.Own(app, env={**os.environ, **failing(call, error, **how)}) as own:
+            lines, status = own.ended()
+            self.assertEqual((lines[call != "socket" :], status), ([said], 5))
+
+    def test_a_socket_that_is_refused(self):
+        for name in ("EMFILE", "ENFILE", "ENOBUFS"):
+            with self.subTest(error=name):
+                number = getattr(errno, name)
+                said = f"cannot listen on 127.0.0.1:0: the system refused it: {servers.system_error(number)}"
+                self.ends(said, "socket", number)
+
+    def test_a_thread_that_is_refused_ends_the_server(self):
+        # A thread for the tasks of each of its two workers, and then one for each worker.
+        for app in ("hello", "nostop"):
+            for after in range(4):
+                with self.subTest(app=app, after=after):
+                    self.ends("no thread for a worker", "pthread_create", errno.EAGAIN, app, after=after)
+
+    def test_a_socket_that_accepts_nothing_ends_the_server(self):
+        for name in (*LASTING, "EPROTO"):
+            with self.subTest(error=name):
+                number = getattr(errno, name)
+                said = f"no connection can be accepted any more: {servers.system_error(number)}"
+                self.ends(said, "accept", number, times=1_000_000)
+
+    def test_a_connection_that_is_lost_is_passed_over(self):
+        for name in ("ECONNABORTED", "EMFILE"):
+            with self.subTest(error=name), servers.Own("hello", env={**os.environ, **failing("accept", getattr(errno, name), times=10)}) as own:
+                with socket.create_connection(("127.0.0.1", own.port()), timeout=SECONDS) as line:
+                    line.sendall(b"GET / HTTP/1.0\r\n\r\n")
+                    self.assertTrue(read_all(line).endswith(b"hello\n"))
+                lines, status = own.ended()
+                self.assertEqual((lines[1:], status), (["connection 1: 1 requests, finished"], 0))
 
 
 class Held(unittest.TestCase):

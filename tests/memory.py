@@ -4,11 +4,11 @@
 Runs each test whose name has WORD (memory_ where none is given) of the programs of tests, crates/*/out/*_tests, once for
 each allocation that it makes, with that one refused. Each call that can answer want of memory does so and leaves its
 object as it was, so that the test passes all the same. Then it runs the program itself so, on some words and inputs: it
-gives its whole answer, or says that it lacks memory after a beginning of it, and never anything else. Last it runs the
+gives its whole answer, or says that it lacks memory after a beginning of it, and never anything else. Then it runs the
 program as a server of two clients so, by one worker and by two: each client gets its answer, a beginning of it, the
-response to a fault of the application, or a closed connection, and has its report if any byte of it was answered. No
-number of allocations is written down: one is through once a run had nothing left to refuse. What came of the runs of the
-program is told for each row, with how often.
+response to a fault of the application, or a closed connection, and has its report if any byte of it was answered. Last it
+runs the program of crates/nomtsage_example so, from its start to its stop. No number of allocations is written down: one is
+through once a run had nothing left to refuse. What came of the runs of the programs is told for each row, with how often.
 The last line is 'N passed, M failed', where a run with one allocation refused is one.
 """
 
@@ -29,6 +29,7 @@ import servers
 HERE = os.path.dirname(os.path.realpath(__file__))
 CRATES = f"{os.path.dirname(HERE)}/crates"
 PROGRAM = f"{CRATES}/asgi_demo/out/asgi_demo"
+OWN = f"{CRATES}/nomtsage_example/out/nomtsage_example"
 # A run makes far fewer; one that makes more has lost its way.
 MOST = 5_000
 SECONDS = 60
@@ -251,6 +252,25 @@ def judge_served(whole):
     return judge
 
 
+# The words of a server that serves no connection, and the texts of the log that say what it lacks: memory, or what needs it.
+OWN_RUNS = [["127.0.0.1:0", "0", "2", app] for app in ("hello", "ends")]
+OWN_USAGE = b"usage: nomtsage_example ADDRESS COUNT WORKERS APP\n"
+LISTENS = rb"\[INFO  \S+\] listening on http://127\.0\.0\.1:\d+\n"
+OWN_LACKS = rb"\[ERROR \S+\] (out of memory|no thread for a worker|cannot listen on 127\.0\.0\.1:0: the system refused it: [^\n]*)\n"
+
+
+def judge_own(refused, status, output, errors):
+    """The server starts, stops and ends well, or says what it lacks, with the status 5; without its words it says how it is called."""
+    if status == 0 and output == b"" and re.fullmatch(LISTENS, errors):
+        return "whole", None
+    lacks = re.fullmatch(rb"(?:%s)?%s" % (LISTENS, OWN_LACKS), errors)
+    if refused and status == 5 and output == b"" and lacks:
+        return lacks[1].decode().partition(" on ")[0], None
+    if refused and (status, output, errors) == (2, OWN_USAGE, b""):
+        return "usage", None
+    return "", f"status {status}, output {output!r}, errors {errors!r}"
+
+
 def has_such(crate, word):
     """Returns whether the crate has a test of such a name."""
     for file in glob.glob(f"{crate}/src/**/*.rt", recursive=True):
@@ -271,7 +291,7 @@ def main(words):
     word = words[0] if words else "memory_"
     crates = [it for it in sorted(glob.glob(f"{CRATES}/*")) if has_such(it, word)]
     programs = [f"{it}/out/{os.path.basename(it)}_tests" for it in crates]
-    lacking = [it for it in [*programs, PROGRAM] if not os.path.isfile(it)]
+    lacking = [it for it in [*programs, PROGRAM, OWN] if not os.path.isfile(it)]
     if lacking:
         print(*[f"{it} is not there: rt ci builds it" for it in lacking], sep="\n")
         print(f"0 passed, {len(lacking)} failed")
@@ -288,6 +308,9 @@ def main(words):
         for given, whole in [] if words else SERVED:
             once = lambda number, given=given: refusing.serve(given, number)
             asked.append((f"asgi_demo serve PORT 2 {' '.join(given)}", once, judge_served(whole)))
+        for given in [] if words else OWN_RUNS:
+            once = lambda number, given=given: refusing.run([OWN, *given], number)
+            asked.append((f"nomtsage_example {' '.join(given)}", once, judge_own))
         done = [*pool.map(lambda it: refusing.sweep(*it), asked)]
     passed, failed = sum(it[0] for it in done), [text for it in done for text in it[1]]
     print(*[f"FAILED: {it}" for it in failed], sep="\n")

@@ -1,8 +1,9 @@
 """The built program as a server, by real clients: `serve PORT COUNT APP` on this machine's loopback address.
 
 Usage: servers.py PROGRAM. The last line is 'N passed, M failed', and the status is 0 only with none failed.
-The program of `crates/asgi_digest_example`, whose responses have trailers, is asked too, as a service of inetd(8) is.
-The clients are curl, ab, wrk and nginx of Debian's packages, Python's `http.client`, and the `websockets` of Debian's
+The program of `crates/asgi_digest_example`, whose responses have trailers, is asked too, as a service of inetd(8) is; and those of
+`crates/asgi_new_example` and `crates/asgi_guide_example`, which docs/GUIDE.md shows.
+The clients are curl, ab, wrk, nginx and haproxy of Debian's packages, Python's `http.client`, and the `websockets` of Debian's
 package python3-websockets; what is missing is installed by apt-get. A client that can't be had is told as skipped, and
 counts neither as passed nor as failed. Each server is started by its test, and has ended at its end: what it printed, and
 its status, are a part of each test. Expected texts are those of the RFCs and of the program's documentation.
@@ -11,6 +12,7 @@ its status, are a part of each test. Expected texts are those of the RFCs and of
 import asyncio
 import base64
 import contextlib
+import errno
 import hashlib
 import http.client
 import os
@@ -29,7 +31,7 @@ import unittest
 PROGRAM = ""
 TOP = os.path.dirname(os.path.dirname(os.path.realpath(__file__)))
 PYTHON = "/usr/bin/python3"
-PACKAGES = {"curl": "curl", "ab": "apache2-utils", "wrk": "wrk", "nginx": "nginx-light"}
+PACKAGES = {"curl": "curl", "ab": "apache2-utils", "wrk": "wrk", "nginx": "nginx-light", "haproxy": "haproxy"}
 SECONDS = 60
 # The largest body that the usual limits take.
 MEBIBYTE = bytes(number * number % 251 for number in range(251)) * (1 << 12)
@@ -139,7 +141,7 @@ def needs(name):
 
 
 class Example(unittest.TestCase):
-    """The program of `crates/asgi_port_example`, as README.md and docs/APPLICATIONS.md have it."""
+    """The program of `crates/asgi_port_example`, as docs/APPLICATIONS.md has it."""
 
     @needs("curl")
     def test_an_application_of_ones_own_is_served_on_a_port(self):
@@ -156,15 +158,413 @@ class Example(unittest.TestCase):
         finally:
             ran.kill()
 
-    def test_the_documents_have_its_application_its_main_and_its_line(self):
-        readme, document = text_of("README.md"), text_of("docs/APPLICATIONS.md")
+    def test_the_document_has_its_application_its_main_and_its_line(self):
+        document = text_of("docs/APPLICATIONS.md")
         folder = "crates/asgi_port_example/src"
         application = re.search(r"^impl Application for .*?^}\n", text_of(f"{folder}/asked.rt"), re.M | re.S)[0]
         body = re.search(r"^fn main\(.*?^}\n", text_of(f"{folder}/main.rt"), re.M | re.S)[0]
         [line] = [line for line in text_of("crates.txt").splitlines(True) if line.startswith("asgi_port_example ")]
-        self.assertIn(f"```rust\n{application}```\n", readme)
-        self.assertIn(f"```rust\n{body}```\n", document)
-        self.assertIn(f"```text\n{line}```\n", document)
+        for text in (f"```rust\n{application}```\n", f"```rust\n{body}```\n", f"```text\n{line}```\n"):
+            self.assertIn(text, document)
+
+
+def log_of(errors):
+    """The lines that a program over `nomtsage` wrote to the log, without what stands before each text and without clients."""
+    return [re.sub(r": \S+ port \d+, ", ": ", line.partition("] ")[2]) for line in errors.splitlines()]
+
+
+def system_error(number):
+    """What the system says of an error, as the toolchain writes it."""
+    return f"{os.strerror(number)} (os error {number})"
+
+
+class Own:
+    """The program of `crates/nomtsage_example`, on this address."""
+
+    def __init__(self, app, address="127.0.0.1:0", count=1, workers=2, **options):
+        words = [f"{TOP}/crates/nomtsage_example/out/nomtsage_example", address, str(count), str(workers), app]
+        pipes = {"stdin": subprocess.DEVNULL, "stdout": subprocess.PIPE, "stderr": subprocess.PIPE}
+        self.ran = subprocess.Popen(words, **pipes, **options)
+        self.lines = []
+
+    def __enter__(self):
+        return self
+
+    def __exit__(self, *_):
+        self.ran.kill()
+        self.ran.communicate()
+
+    def port(self):
+        """The port that its line of the log has, once it listens."""
+        while line := self.ran.stderr.readline().decode():
+            self.lines.append(line)
+            if found := re.search(r"listening on http://\S+:(\d+)$", line.rstrip()):
+                return int(found[1])
+        raise AssertionError(f"no line says where it listens: {self.lines}")
+
+    def ended(self):
+        """What it wrote to the log, and its status, once it has ended."""
+        _, errors = self.ran.communicate(timeout=SECONDS)
+        return log_of("".join(self.lines) + errors.decode()), self.ran.returncode
+
+
+class Library(unittest.TestCase):
+    """`Server` of `crates/nomtsage`, by the program of `crates/nomtsage_example`."""
+
+    def get(self, port, path, host="127.0.0.1"):
+        with socket.create_connection((host, port), timeout=SECONDS) as line:
+            line.sendall(b"GET %s HTTP/1.0\r\n\r\n" % path)
+            return read_all(line).partition(b"\r\n\r\n")[2]
+
+    def refused(self, said, status, app="hello", has_begun=False, **how):
+        """Asserts that it ends by itself with this one line, after the one that says where it listens if it has begun, and with this status."""
+        with Own(app, **how) as own:
+            lines, found = own.ended()
+            self.assertEqual((lines[-1], len(lines), found), (said, 1 + has_begun, status))
+
+    def test_any_free_port_is_told(self):
+        with Own("hello") as own:
+            port = own.port()
+            self.assertEqual(self.get(port, b"/"), b"hello\n")
+            told = [f"listening on http://127.0.0.1:{port}", "connection 1: 1 requests, finished"]
+            self.assertEqual(own.ended(), (told, 0))
+
+    def test_each_connection_is_told(self):
+        with Own("hello", count=5, workers=8) as own:
+            port = own.port()
+            for _ in range(5):
+                self.assertEqual(self.get(port, b"/"), b"hello\n")
+            told, status = own.ended()
+            self.assertEqual(sorted(told[1:]), [f"connection {number}: 1 requests, finished" for number in range(1, 6)])
+            self.assertEqual(status, 0)
+
+    def test_all_addresses_where_that_is_named(self):
+        with Own("hello", "0.0.0.0:0") as own:
+            self.assertEqual(self.get(own.port(), b"/"), b"hello\n")
+            self.assertEqual(own.ended()[1], 0)
+
+    def test_ipv6(self):
+        try:
+            socket.create_server(("::1", 0), family=socket.AF_INET6).close()
+        except OSError as e:
+            self.skipTest(f"no IPv6: {e}")
+        with Own("hello", "[::1]:0") as own:
+            self.assertEqual(self.get(own.port(), b"/", "::1"), b"hello\n")
+            self.assertEqual(own.ended()[1], 0)
+
+    def test_a_port_in_use(self):
+        with socket.create_server(("127.0.0.1", 0)) as taken:
+            address = f"127.0.0.1:{taken.getsockname()[1]}"
+            for app in ("hello", "nostart"):
+                with self.subTest(app=app):
+                    why = system_error(errno.EADDRINUSE)
+                    self.refused(f"cannot listen on {address}: the port is in use: {why}", 5, app, address=address)
+
+    def test_no_right_to_a_port(self):
+        with open("/proc/sys/net/ipv4/ip_unprivileged_port_start", encoding="ascii") as it:
+            first = int(it.read())
+        nobody = {"user": 65534, "group": 65534, "extra_groups": []} if os.getuid() == 0 else {}
+        if first <= 1 or not os.access(f"{TOP}/crates", os.X_OK):
+            self.skipTest("each port is for everybody here")
+        try:
+            why = system_error(errno.EACCES)
+            self.refused(f"cannot listen on 127.0.0.1:1: no right to this port: {why}", 5, address="127.0.0.1:1", **nobody)
+        except PermissionError as e:
+            self.skipTest(f"the program can't be run without rights: {e}")
+
+    def test_an_address_that_is_not_ours(self):
+        # 192.0.2.0/24 is for documentation (RFC 5737): no machine has such an address.
+        why = system_error(errno.EADDRNOTAVAIL)
+        self.refused(f"cannot listen on 192.0.2.1:8000: the address is not one of this machine: {why}", 5, address="192.0.2.1:8000")
+
+    def test_numbers_of_workers_that_are_none(self):
+        for workers in (0, 9):
+            with self.subTest(workers=workers):
+                self.refused(f"workers: {workers} is not a number from 1 to 8", 2, workers=workers)
+
+    def test_a_connection_is_told_with_its_client(self):
+        with Own("hello") as own:
+            with socket.create_connection(("127.0.0.1", own.port()), timeout=SECONDS) as line:
+                client = line.getsockname()[1]
+                line.sendall(b"GET / HTTP/1.0\r\n\r\n")
+                read_all(line)
+            errors = own.ran.communicate(timeout=SECONDS)[1].decode()
+            self.assertIn(f"connection 1: 127.0.0.1 port {client}, 1 requests, finished\n", errors)
+
+    def test_a_start_that_fails(self):
+        port = free_port()
+        self.refused("startup failed: no table", 3, "nostart", has_begun=True, address=f"127.0.0.1:{port}")
+        self.assertFalse(listens(port))
+
+    def test_a_start_that_is_not_answered(self):
+        self.refused("startup failed: no answer", 3, "silentstart", has_begun=True)
+
+    def test_a_stop_that_is_not_answered(self):
+        # It serves no connection, so the stop comes right after the start.
+        self.refused("shutdown failed: no answer", 4, "silentstop", has_begun=True, count=0)
+
+    def test_words_that_are_none(self):
+        usage = b"usage: nomtsage_example ADDRESS COUNT WORKERS APP\n"
+        for words in ([], ["127.0.0.1", "1", "1", "hello"], ["127.0.0.1:65536", "1", "1", "hello"], ["127.0.0.1:0", "one", "1", "hello"], ["127.0.0.1:0", "1", "1", "Hello"]):
+            with self.subTest(words=words):
+                status, output, errors = run([f"{TOP}/crates/nomtsage_example/out/nomtsage_example", *words])
+                self.assertEqual((status, output, errors), (2, usage, ""))
+
+    def test_a_handler_that_fails(self):
+        # Its connection ends, and no other one.
+        failed = b"HTTP/1.1 500 Internal Server Error\r\ncontent-length: 0\r\nconnection: close\r\n\r\n"
+        with Own("fails", count=2) as own:
+            port = own.port()
+            with socket.create_connection(("127.0.0.1", port), timeout=SECONDS) as line:
+                line.sendall(b"GET /fail HTTP/1.1\r\nHost: a\r\n\r\n" + GET)
+                self.assertEqual(read_all(line), failed)
+            with socket.create_connection(("127.0.0.1", port), timeout=SECONDS) as line:
+                line.sendall(b"GET / HTTP/1.0\r\n\r\n")
+                self.assertTrue(read_all(line).startswith(b"HTTP/1.1 204 No Content\r\n"))
+            told, status = own.ended()
+            self.assertEqual((sorted(told[1:]), status), ([f"connection {number}: 1 requests, finished" for number in (1, 2)], 0))
+
+    def test_a_stop_that_fails(self):
+        with Own("nostop") as own:
+            self.get(own.port(), b"/")
+            told, status = own.ended()
+            self.assertEqual((told[-2:], status), (["connection 1: 1 requests, finished", "shutdown failed: still busy"], 4))
+
+    def test_a_stop_that_the_application_pulls(self):
+        with Own("ends", count=1000) as own:
+            port = own.port()
+            begun = socket.create_connection(("127.0.0.1", port), timeout=SECONDS)
+            begun.sendall(b"GET /first HTTP/1.1\r\nHost: a\r\n\r\n")
+            self.assertTrue(begun.recv(1 << 16).startswith(b"HTTP/1.1 200 "))
+            self.assertEqual(self.get(port, b"/end"), b"/end")
+            wait_for(lambda: not listens(port) or own.ran.poll() is not None or self.is_left(port), "the server accepts on")
+            # What was begun is still answered, and ends the server with it.
+            begun.sendall(b"GET /last HTTP/1.1\r\nHost: a\r\nConnection: close\r\n\r\n")
+            self.assertIn(b"/last", read_all(begun))
+            begun.close()
+            told, status = own.ended()
+            self.assertEqual(told[1:], ["connection 1: 1 requests, finished", "connection 2: 2 requests, finished"])
+            self.assertEqual(status, 0)
+
+    def is_left(self, port):
+        """Whether the server leaves a connection in the system's queue for a while: nothing is answered."""
+        with socket.create_connection(("127.0.0.1", port), timeout=0.2) as line:
+            line.sendall(GET)
+            try:
+                return not line.recv(1)
+            except TimeoutError:
+                return True
+            except ConnectionError:
+                return True
+
+
+class Served:
+    """The program of an example, which serves so many connections of a port, and then ends by itself."""
+
+    def __init__(self, name, count, *words):
+        self.port = free_port()
+        self.url = f"http://127.0.0.1:{self.port}"
+        words = [f"{TOP}/crates/{name}/out/{name}", str(self.port), str(count), *words]
+        self.ran = subprocess.Popen(words, stdin=subprocess.DEVNULL, stdout=subprocess.PIPE, stderr=subprocess.PIPE)
+
+    def __enter__(self):
+        wait_for(lambda: listens(self.port) or self.ran.poll() is not None, "the example does not listen")
+        return self
+
+    def __exit__(self, *_):
+        self.ran.kill()
+        self.ran.communicate()
+
+    def connect(self):
+        return http.client.HTTPConnection("127.0.0.1", self.port, timeout=SECONDS)
+
+    def ended(self):
+        """What it printed, what it wrote to the log after the line that says where it listens, and its status, once it has ended."""
+        output, errors = self.ran.communicate(timeout=SECONDS)
+        first, *lines = log_of(errors.decode())
+        if first != f"listening on {self.url}":
+            raise AssertionError(f"no line says where it listens: {first}")
+        return output.decode(), lines, self.ran.returncode
+
+
+class Guide(unittest.TestCase):
+    """The programs of docs/GUIDE.md: what `make new` makes, and the applications that come after it."""
+
+    DOCUMENT = "docs/GUIDE.md"
+    ENDED = ("", [], 0)
+
+    def curl(self, served, path="/", *words):
+        """The status, the content type and the body that curl gets."""
+        asked = ["curl", "-s", "-m", str(SECONDS), "-w", "\n%{http_code} %{content_type}", *words, f"{served.url}{path}"]
+        status, output, _ = run(asked)
+        self.assertEqual(status, 0)
+        body, _, rest = output.decode().rpartition("\n")
+        return (*rest.split(" ", 1), body)
+
+    @needs("curl")
+    def test_a_new_crate_is_served(self):
+        text, json, missing = "text/plain; charset=utf-8", "application/json", ("404", "", "")
+        rows = [(["/"], ("200", text, "hello\n")), (["/items/7"], ("200", json, '{"item":7}')), (["/items/x"], missing), (["/x"], missing)]
+        rows += [(["/items", "-d", "a new item"], ("200", json, '{"length":10}')), (["/", "-X", "DELETE"], missing)]
+        with Served("asgi_new_example", len(rows)) as served:
+            for words, wanted in rows:
+                self.assertEqual(self.curl(served, *words), wanted)
+            output, lines, status = served.ended()
+            told = [f"connection {number}: 1 requests, finished" for number in range(1, len(rows) + 1)]
+            self.assertEqual((output, sorted(lines), status), ("", told, 0))
+
+    def test_a_new_crate_without_a_count_serves_on(self):
+        program = f"{TOP}/crates/asgi_new_example/out/asgi_new_example"
+        ran = subprocess.Popen([program, "0"], stdin=subprocess.DEVNULL, stdout=subprocess.PIPE, stderr=subprocess.PIPE)
+        try:
+            url = log_of(ran.stderr.readline().decode())[0].removeprefix("listening on ")
+            for _ in range(3):
+                line = http.client.HTTPConnection(url.removeprefix("http://"), timeout=SECONDS)
+                line.request("HEAD", "/items/7")
+                answer = line.getresponse()
+                self.assertEqual((answer.status, answer.headers["content-length"], answer.read()), (200, "10", b""))
+                line.close()
+            self.assertIsNone(ran.poll())
+        finally:
+            ran.kill()
+            ran.communicate()
+
+    def test_the_readme_has_the_program(self):
+        folder = "crates/asgi_new_example/src"
+        handler = re.search(r"^impl Handler for .*?^}\n", text_of(f"{folder}/items.rt"), re.M | re.S)[0]
+        body = re.search(r"^fn main\(.*?^}\n", text_of(f"{folder}/main.rt"), re.M | re.S)[0]
+        self.assertIn(f"```rust\n{handler}\n{body}```\n", text_of("README.md"))
+
+    @needs("curl")
+    def test_requests_share_a_counter(self):
+        with Served("asgi_guide_example", 3, "counts") as served:
+            for number in (1, 2, 3):
+                self.assertEqual(self.curl(served), ("200", "text/plain; charset=utf-8", f"request {number}\n"))
+            self.assertEqual(served.ended(), self.ENDED)
+
+    def asked(self, line, path="/"):
+        """The status and the content of the response to one more request of a connection."""
+        line.request("GET", path)
+        answer = line.getresponse()
+        return answer.status, answer.read().decode()
+
+    def test_two_clients_at_once_get_each_number_once(self):
+        def client(found):
+            line = served.connect()
+            found += [self.asked(line) for _ in range(50)]
+            line.close()
+
+        with Served("asgi_guide_example", 2, "counts") as served:
+            found = [[], []]
+            clients = [threading.Thread(target=client, args=(it,)) for it in found]
+            for it in clients:
+                it.start()
+            for it in clients:
+                it.join(SECONDS)
+            self.assertEqual(sorted(found[0] + found[1]), sorted((200, f"request {number}\n") for number in range(1, 101)))
+            # Of two requests of one client the later one has the larger number.
+            for it in found:
+                self.assertEqual(it, sorted(it, key=lambda found: int(found[1].split()[1])))
+            self.assertEqual(served.ended(), self.ENDED)
+
+    def test_a_pool_of_one_is_busy_until_what_was_taken_is_given_back(self):
+        with Served("asgi_guide_example", 2, "pool") as served:
+            slow, quick = served.connect(), served.connect()
+            # The question of the first client takes three seconds; the second one asks until it finds the pool busy with that.
+            slow.request("GET", "/3000")
+            wait_for(lambda: self.asked(quick, "/0") == (503, ""), "the pool is never busy")
+            answer = slow.getresponse()
+            self.assertEqual(answer.status, 200)
+            number = int(answer.read().split()[1])
+            # It is free again, and the same value as before.
+            self.assertEqual(self.asked(quick, "/0"), (200, f"question {number + 1}\n"))
+            self.assertEqual(self.asked(slow, "/1"), (200, f"question {number + 2}\n"))
+            slow.close()
+            quick.close()
+            self.assertEqual(served.ended(), self.ENDED)
+
+    def test_a_cache_computes_each_answer_once_and_keeps_a_hundred(self):
+        with Served("asgi_guide_example", 2, "cache") as served:
+            first = served.connect()
+            for path, number in (("/a", 1), ("/b", 2), ("/a", 1)):
+                self.assertEqual(self.asked(first, path), (200, f"answer {number}: {path}\n"))
+            first.close()
+            # The other client gets what was computed for the first one. Of 101 answers the one that was asked for longest ago is gone.
+            other = served.connect()
+            for path, number in (("/b", 2), ("/a", 1), *((f"/{it}", it) for it in range(3, 102)), ("/a", 1), ("/101", 101), ("/b", 102)):
+                self.assertEqual(self.asked(other, path), (200, f"answer {number}: {path}\n"))
+            other.close()
+            self.assertEqual(served.ended(), self.ENDED)
+
+    @needs("curl")
+    def test_an_order_is_answered_with_what_it_costs(self):
+        # The last but one costs more than a number of 64 bits holds; the last one is no UTF-8.
+        rows = [('{"count": 3}', "200", '{"cents":75}'), ("{}", "400", '{"error":"no count"}'), ("", "400", '{"error":"no count"}')]
+        rows += [(it, "400", '{"error":"no count"}') for it in ("count", '{"count": -1}', '{"count": 18446744073709551615}', b'{"count": \xff}')]
+        with Served("asgi_guide_example", len(rows), "orders") as served:
+            for order, status, body in rows:
+                self.assertEqual(self.curl(served, "/", "--data-binary", order), (status, "application/json", body))
+            self.assertEqual(served.ended(), self.ENDED)
+
+    @needs("curl")
+    def test_an_order_may_come_in_pieces(self):
+        order = '{"count": 3' + " " * 70_000 + "}"
+        with tempfile.NamedTemporaryFile("w") as file, Served("asgi_guide_example", 1, "orders") as served:
+            file.write(order)
+            file.flush()
+            words = ["-H", "Transfer-Encoding: chunked", "--data-binary", f"@{file.name}"]
+            self.assertEqual(self.curl(served, "/", *words), ("200", "application/json", '{"cents":75}'))
+            self.assertEqual(served.ended(), self.ENDED)
+
+    @needs("curl")
+    def test_an_order_that_is_too_long_is_refused(self):
+        with tempfile.NamedTemporaryFile("w") as file, Served("asgi_guide_example", 1, "orders") as served:
+            file.write('{"count": 3' + " " * (1 << 20) + "}")
+            file.flush()
+            self.assertEqual(self.curl(served, "/", "--data-binary", f"@{file.name}"), ("413", "", ""))
+            self.assertEqual(served.ended(), self.ENDED)
+
+    def test_a_session_says_each_text_again(self):
+        import websockets
+
+        async def talk(url):
+            async with websockets.connect(url, ping_interval=None) as session:
+                for text in ("Hello", "", "\u20ac"):
+                    await session.send(text)
+                    self.assertEqual(await session.recv(), f"you said: {text}")
+                await session.send(b"no answer")
+                await session.send("bye")
+                with self.assertRaises(websockets.ConnectionClosed):
+                    await session.recv()
+                return session.close_code, session.close_reason
+
+        with Served("asgi_guide_example", 1, "session") as served:
+            url = served.url.replace("http", "ws")
+            self.assertEqual(asyncio.run(asyncio.wait_for(talk(url), SECONDS)), (1000, "bye"))
+            self.assertEqual(served.ended(), self.ENDED)
+
+    @needs("curl")
+    def test_the_state_of_the_start_is_in_each_request(self):
+        with Served("asgi_guide_example", 2, "greets") as served:
+            for _ in range(2):
+                self.assertEqual(self.curl(served), ("200", "text/plain; charset=utf-8", "good morning\n"))
+            self.assertEqual(served.ended(), self.ENDED)
+
+    def test_a_port_that_is_taken_ends_it(self):
+        with socket.create_server(("127.0.0.1", 0)) as taken:
+            for name, words in (("asgi_new_example", []), ("asgi_guide_example", ["orders"]), ("asgi_guide_example", ["greets"])):
+                port = taken.getsockname()[1]
+                status, output, errors = run([f"{TOP}/crates/{name}/out/{name}", str(port), "1", *words])
+                said = f"cannot listen on 127.0.0.1:{port}: the port is in use: {system_error(errno.EADDRINUSE)}"
+                self.assertEqual((status, output, log_of(errors)), (5, b"", [said]))
+
+    def test_the_guide_has_the_code(self):
+        """Each piece of Rust names its file in its first line, and stands in it as it is."""
+        pieces = re.findall(r"```rust\n// (crates/\S+)\n(.*?)```", text_of(self.DOCUMENT), re.DOTALL)
+        self.assertEqual(len(pieces), text_of(self.DOCUMENT).count("```rust\n"))
+        self.assertTrue(pieces)
+        for path, piece in pieces:
+            self.assertIn(piece, text_of(path), path)
 
 
 class Service:
@@ -531,40 +931,83 @@ http {{
 {said}
 }}
 """
-DEPLOYING = "docs/DEPLOYING.md"
+HAPROXY = """
+global
+  maxconn 100
+{said}
+"""
+DEPLOYING, GUIDE = "docs/DEPLOYING.md", "docs/GUIDE.md"
 
 
-def configuration(port, servers):
-    """The text for nginx in docs/DEPLOYING.md, but for the port on which it listens and those of the servers."""
-    said = re.search(r"```nginx\n(.*?)```", text_of(DEPLOYING), re.DOTALL)[1]
-    lines = "".join(f"  server 127.0.0.1:{it};\n" for it in servers)
-    said, found = re.subn(r"(  server 127\.0\.0\.1:\d+;\n)+", lines, said)
-    said, listening = re.subn(r"listen \d+;", f"listen 127.0.0.1:{port};", said)
-    if (found, listening) != (1, 1):
-        raise AssertionError(f"{DEPLOYING} has no servers, or no port, to put others in place of")
+def said_in(document, language, *others):
+    """The first text of this language in a document, with the places of each pattern filled by others: where to listen, and where the servers are."""
+    found = re.search(rf"```{language}\n(.*?)```", text_of(document), re.DOTALL)
+    if not found:
+        raise AssertionError(f"{document} has no text for {language}")
+    said = found[1]
+    for pattern, new in others:
+        said, count = re.subn(pattern, lambda _, new=new: new, said)
+        if count != 1:
+            raise AssertionError(f"{document} has {count} places like {pattern}, and not one, to put others in")
     return said
 
 
-class Proxy:
-    """nginx before servers on these ports, as docs/DEPLOYING.md has it."""
+def nginx_of_deploying(port, servers):
+    lines = "".join(f"  server 127.0.0.1:{it};\n" for it in servers)
+    return said_in(DEPLOYING, "nginx", (r"(  server 127\.0\.0\.1:\d+;\n)+", lines), (r"listen \d+;", f"listen 127.0.0.1:{port};"))
 
-    def __init__(self, *servers):
+
+def nginx_of_the_guide(port, servers):
+    [server] = servers
+    return said_in(GUIDE, "nginx", (r"proxy_pass http://127\.0\.0\.1:\d+;", f"proxy_pass http://127.0.0.1:{server};"), (r"listen \d+;", f"listen 127.0.0.1:{port};"))
+
+
+def haproxy_of_deploying(port, servers):
+    lines = "".join(f"  server s{number} 127.0.0.1:{it} maxconn 8\n" for number, it in enumerate(servers, 1))
+    return said_in(DEPLOYING, "haproxy", (r"(  server \w+ 127\.0\.0\.1:\d+ maxconn 8\n)+", lines), (r"bind :\d+", f"bind 127.0.0.1:{port}"))
+
+
+class Proxy:
+    """nginx before servers on these ports, by the text of a document."""
+
+    def __init__(self, *servers, words=nginx_of_deploying):
         self.folder, self.port = tempfile.TemporaryDirectory(), free_port()
         os.chmod(self.folder.name, 0o777)
         path = f"{self.folder.name}/conf"
         with open(path, "w", encoding="utf-8") as it:
-            it.write(NGINX.format(folder=self.folder.name, said=configuration(self.port, servers)))
+            it.write(self.text(words(self.port, servers)))
         how = {"stdin": subprocess.DEVNULL, "stdout": subprocess.DEVNULL, "stderr": subprocess.DEVNULL}
-        self.ran = subprocess.Popen(["nginx", "-c", path], **how)
+        self.ran = subprocess.Popen(self.command(path), **how)
+
+    def text(self, said):
+        return NGINX.format(folder=self.folder.name, said=said)
+
+    def command(self, path):
+        return ["nginx", "-c", path]
 
     def __enter__(self):
-        wait_for(lambda: listens(self.port), "nginx does not listen")
+        wait_for(lambda: listens(self.port) or self.ran.poll() is not None, "the proxy does not listen")
+        if self.ran.poll() is not None:
+            raise AssertionError("the proxy does not take the text of the document")
         return self
 
     def __exit__(self, *_):
         self.ran.terminate()
         self.ran.wait(timeout=SECONDS)
         self.folder.cleanup()
+
+
+class Haproxy(Proxy):
+    """haproxy before servers on these ports, as docs/DEPLOYING.md has it."""
+
+    def __init__(self, *servers):
+        super().__init__(*servers, words=haproxy_of_deploying)
+
+    def text(self, said):
+        return HAPROXY.format(said=said)
+
+    def command(self, path):
+        return ["haproxy", "-db", "-q", "-f", path]
 
 
 @needs("nginx")
@@ -604,6 +1047,64 @@ class BehindNginx(unittest.TestCase):
                 self.assertEqual(server.ended(), (["1 1 finished"], "", 0))
 
 
+@needs("nginx")
+class BehindNginxByTheGuide(unittest.TestCase):
+    def test_requests(self):
+        with Server("echo", 3) as server:
+            with Proxy(server.port, words=nginx_of_the_guide) as proxy:
+                line = http.client.HTTPConnection("127.0.0.1", proxy.port, timeout=SECONDS)
+                for body in (b"", b"abc", MEBIBYTE[:70_000]):
+                    line.request("POST", "/", body)
+                    answer = line.getresponse()
+                    self.assertEqual((answer.status, answer.read()), (200, body))
+                line.close()
+            # It makes a connection of its own for each.
+            self.assertEqual(server.ended(), ([f"{number} 1 finished" for number in (1, 2, 3)], "", 0))
+
+    def test_a_session(self):
+        with Server("wsecho", 1) as server:
+            with Proxy(server.port, words=nginx_of_the_guide) as proxy:
+                self.assertEqual(Python.talk(self, f"ws://127.0.0.1:{proxy.port}/"), 3001)
+            self.assertEqual(server.ended(), (["1 1 finished"], "", 0))
+
+
+@needs("haproxy")
+class BehindHaproxy(unittest.TestCase):
+    def test_requests(self):
+        with Server("echo", 3) as server:
+            with Haproxy(server.port) as proxy:
+                line = http.client.HTTPConnection("127.0.0.1", proxy.port, timeout=SECONDS)
+                for body in (b"", b"abc", MEBIBYTE):
+                    line.request("POST", "/", body)
+                    answer = line.getresponse()
+                    self.assertEqual((answer.status, answer.read()), (200, body))
+                line.close()
+            # It closes its connection to the server after each response, and keeps that of the client.
+            self.assertEqual(server.ended(), ([f"{number} 1 finished" for number in (1, 2, 3)], "", 0))
+
+    def test_a_session(self):
+        with Server("wsecho", 1) as server:
+            with Haproxy(server.port) as proxy:
+                self.assertEqual(Python.talk(self, f"ws://127.0.0.1:{proxy.port}/"), 3001)
+            self.assertEqual(server.ended(), (["1 1 finished"], "", 0))
+
+    def test_a_request_beside_a_session(self):
+        # The one that has the session is busy, so the request goes to the other one.
+        with Server("wsecho") as one, Server("wsecho") as other:
+            with Haproxy(one.port, other.port) as proxy, socket.create_connection(("127.0.0.1", proxy.port), SECONDS) as session:
+                session.sendall(HANDSHAKE)
+                self.assertTrue(session.recv(4_096).startswith(b"HTTP/1.1 101 "))
+                line = http.client.HTTPConnection("127.0.0.1", proxy.port, timeout=SECONDS)
+                line.request("GET", "/")
+                self.assertEqual(line.getresponse().status, 404)
+                line.close()
+                # A close without a code, and its answer (RFC 6455, section 5.5.1).
+                session.sendall(b"\x88\x80\0\0\0\0")
+                self.assertEqual(read_all(session), b"\x88\0")
+            for server in (one, other):
+                self.assertEqual(server.ended(), (["1 1 finished"], "", 0))
+
+
 def has_websockets():
     words = [PYTHON, "-c", "import websockets"]
     return os.path.isfile(PYTHON) and subprocess.run(words, stderr=subprocess.DEVNULL, check=False).returncode == 0
@@ -626,7 +1127,7 @@ def install():
 
 def versions():
     """Shows which clients there are."""
-    asked = {"curl": ["curl", "--version"], "ab": ["ab", "-V"], "wrk": ["wrk", "-v"], "nginx": ["nginx", "-v"]}
+    asked = {"curl": ["curl", "--version"], "ab": ["ab", "-V"], "wrk": ["wrk", "-v"], "nginx": ["nginx", "-v"], "haproxy": ["haproxy", "-v"]}
     print(f"python: {sys.version.split()[0]}")
     for name, words in asked.items():
         found = run(words) if shutil.which(name) else (0, b"", "can't be had")

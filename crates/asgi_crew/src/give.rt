@@ -1,5 +1,5 @@
 //! The giver, at its end of the channel.
-ghost use Rattle.std.specs.Prelude.{◌≡◌, ◌+◌, ◌<◌, ◌≤◌, [], ◌∷◌, ◌++◌, Some, map, length, vec_len, vec_capacity, IfSome};
+ghost use Rattle.std.specs.Prelude.{◌≡◌, ◌+◌, ◌<◌, [], ◌∷◌, ◌++◌, Some, map};
 ghost use Rattle.crossbeam_channel.specs.Claims.{view, IsSeatAt};
 ghost use Rattle.crossbeam_channel.specs.Ends.{sends_on};
 ghost use Rattle.asgi_crew.specs.private.Channel.{hand, gave};
@@ -75,20 +75,6 @@ pub fn give_stops<C: Drop, N: Drop, R: Wait>(
     }
 }
 
-/// A place for the report of the item with the number `next`, and room for it among all reports. `None` if memory
-/// is refused.
-fn place_for<N: Drop>(alloc: Global, all: &mut Vec<(u64, N)>, next: u64) -> Option<Place<N>>
-    requires { all.old.items ≡ [] }
-    ensures same { all.new.items ≡ [] }
-    ensures kept { vec_capacity all.old ≤ vec_capacity all.new }
-    ensures room { IfSome result (λ _. next ≤ vec_capacity all.new) }
-{
-    if all.try_reserve(next as usize).is_err() {
-        return None;
-    }
-    Place::new(alloc).ok()
-}
-
 /// Gives each item that the giver gives, numbered from 1 on.
 #[tactic(auto, using(crate::proofs::Given::answers_more, crate::proofs::Given::numbers_more, crate::proofs::Given::count_more, crate::proofs::Given::answers_end, crate::proofs::Given::answers_stay))]
 pub fn give_all<C: Drop, N: Drop, G, E: Asks<G, C>, R: Wait>(
@@ -98,16 +84,14 @@ pub fn give_all<C: Drop, N: Drop, G, E: Asks<G, C>, R: Wait>(
     to: &To<C, N>,
     pass: &mut Knows<C, N>,
     giver: &mut G,
-    all: &mut Vec<(u64, N)>,
 ) -> End
     requires seat { IsSeatAt (sends_on to.now) pass.old }
     requires may { ((view pass.old).gives ≡ 1) × (0 < (view pass.old).parts) }
-    requires fresh { ((view pass.old).given ≡ []) × ((view pass.old).shut ≡ 0) × (all.old.items ≡ []) }
+    requires fresh { ((view pass.old).given ≡ []) × ((view pass.old).shut ≡ 0) }
     ensures seat { IsSeatAt (sends_on to.now) pass.new }
     ensures part { view pass.new ≡ hand (view pass.old).parts 1 (view pass.new).given (view pass.old).taken 0 (view pass.old).ended }
     ensures answers { E.answers giver.new ≡ E.answers giver.old ++ (map Some (items_of (view pass.new).given) ++ last_of result) }
     ensures numbers { (view pass.new).given ≡ numbered 0 (items_of (view pass.new).given) }
-    ensures room { (all.new.items ≡ []) × (length (view pass.new).given ≤ vec_capacity all.new) }
     ensures begun { ¬ (result ≡ NoThread) }
     ensures source { E.source giver.new ≡ E.source giver.old }
 {
@@ -117,7 +101,7 @@ pub fn give_all<C: Drop, N: Drop, G, E: Asks<G, C>, R: Wait>(
             return End::NoMemory;
         };
         // Memory for its report is reserved before an item is asked for.
-        let Some(place) = place_for(alloc, all, number) else {
+        let Ok(place) = Place::new(alloc) else {
             return End::NoMemory;
         };
         let Some(item) = how.ask(giver) else {

@@ -1,5 +1,5 @@
 //! Starts the workers, and gives.
-ghost use Rattle.std.specs.Prelude.{◌≡◌, ◌+◌, ◌<◌, ◌≤◌, [], ◌∷◌, ◌++◌, length, vec_len, vec_capacity};
+ghost use Rattle.std.specs.Prelude.{◌≡◌, ◌+◌, ◌<◌, ◌≤◌, [], ◌∷◌, ◌++◌, vec_len, vec_capacity};
 ghost use Rattle.crossbeam_channel.specs.Claims.{view, IsSeatAt};
 ghost use Rattle.crossbeam_channel.specs.Ends.{sends_on, receives_on};
 ghost use Rattle.asgi_desk.specs.Hands.{seated};
@@ -47,13 +47,11 @@ impl<C: Drop, N: Drop, W: Drop, T: Teller<N> + Drop, E: Serves<W, C, Report = N>
         × InTurn (E.serves p.how.value) p.worker.value r.worker (view r.pass).taken (knows r.seat).put };
 }
 
-/// The workers that have ended, room for all reports, why no more items were asked for, and what the giver's pass and seat
-/// know with theirs.
+/// The workers that have ended, why no more items were asked for, and what the giver's pass and seat know with theirs.
 #[derive(Drop)]
 pub struct Crew<C: Drop, N: Drop, W: Drop, T: Drop> {
     pub pass: Knows<C, N>,
     pub seat: Seat<N, T>,
-    pub all: Vec<(u64, N)>,
     pub crew: Vec<W>,
     pub end: End,
 }
@@ -75,12 +73,11 @@ fn joined<C: Drop, N: Drop, W: Drop, T: Teller<N> + Drop>(
     ensures pass { view result.pass ≡ hand ((view so_far.pass).parts + 1) 1 (view so_far.pass).given ((view so_far.pass).taken ++ (view worked.pass).taken) (view so_far.pass).shut ((view so_far.pass).ended + 1) }
     ensures put { knows result.seat ≡ seated ((knows so_far.seat).parts + 1) (knows so_far.seat).first ((knows so_far.seat).put ++ (knows worked.seat).put) }
     ensures crew { (result.crew.items ≡ so_far.crew.items ++ worked.worker ∷ []) × (vec_capacity result.crew ≡ vec_capacity so_far.crew) }
-    ensures same { (result.all ≡ so_far.all) × (result.end ≡ so_far.end) }
+    ensures same { result.end ≡ so_far.end }
 {
     let Crew {
         mut pass,
         mut seat,
-        all,
         mut crew,
         end,
     } = so_far;
@@ -95,7 +92,6 @@ fn joined<C: Drop, N: Drop, W: Drop, T: Teller<N> + Drop>(
     Crew {
         pass,
         seat,
-        all,
         crew,
         end,
     }
@@ -138,19 +134,16 @@ pub fn run<
     ensures ended { HaveEnded result.end (vec_len crew) (view result.pass).ended }
     ensures stopped { (view result.pass).shut ≡ started + (view result.pass).ended }
     ensures ran { Ran (E.serves how.now) (E.answers giver.old) (E.answers giver.new) (last_of result.end) crew.items result.crew.items (knows result.seat).put (view result.pass) }
-    ensures room { (result.all.items ≡ []) × (length (view result.pass).given ≤ vec_capacity result.all) }
     ensures crew { (vec_len result.crew ≡ vec_len crew) × (vec_capacity crew ≤ vec_capacity result.crew) }
     ensures refused { result.end ≡ NoThread → E.answers giver.new ≡ E.answers giver.old }
     ensures source { E.source giver.new ≡ E.source giver.old }
 {
     let Some(worker) = crew.pop() else {
-        let mut all = Vec::new(alloc);
-        let end = give_all(rt, alloc, how, to, &mut pass, giver, &mut all);
+        let end = give_all(rt, alloc, how, to, &mut pass, giver);
         give_stops(rt, to, &mut pass, started);
         return Crew {
             pass,
             seat,
-            all,
             crew,
             end,
         };
@@ -199,7 +192,6 @@ pub fn run<
             let none = Crew {
                 pass,
                 seat,
-                all: Vec::new(alloc),
                 crew,
                 end: End::NoThread,
             };

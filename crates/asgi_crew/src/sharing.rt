@@ -1,5 +1,5 @@
 //! Shares the items out among the workers.
-ghost use Rattle.std.specs.Prelude.{◌≡◌, ◌<◌, ◌≤◌, [], length, vec_len, vec_capacity};
+ghost use Rattle.std.specs.Prelude.{◌≡◌, ◌<◌, ◌≤◌, [], vec_len};
 ghost use Rattle.crossbeam_channel.specs.Claims.{view, IsSeatAt};
 ghost use Rattle.crossbeam_channel.specs.Ends.{sends_on, receives_on};
 ghost use Rattle.asgi_desk.specs.Hands.{seated};
@@ -17,6 +17,7 @@ use crate::give::End;
 use crate::run::{Crew, run};
 use crate::serves::Serves;
 use asgi_desk::{Desk, Seat, Teller};
+use asgi_io::History;
 use crossbeam_channel::bounded_with;
 use std::alloc::Global;
 use std::sync::Wait;
@@ -29,8 +30,9 @@ const PLACES: usize = 4;
 /// What came of items that were shared out.
 #[derive(Drop)]
 pub struct Shared<N: Drop, W: Drop, T: Drop> {
-    /// The reports under their numbers, 1 upwards, in the order in which the items were given.
-    pub reports: Vec<(u64, N)>,
+    /// The reports under their numbers, 1 upwards, in the order in which the items were given: a list that clauses alone read.
+    /// The teller got each.
+    pub reports: History<(u64, N)>,
     /// The workers, in their order.
     pub workers: Vec<W>,
     /// The teller, which got each report.
@@ -75,7 +77,6 @@ fn run_scoped<
     ensures ended { HaveEnded result.end (vec_len crew) (view result.pass).ended }
     ensures stopped { (view result.pass).shut ≡ (view result.pass).ended }
     ensures ran { Ran (E.serves how.now) (E.answers giver.old) (E.answers giver.new) (last_of result.end) crew.items result.crew.items (knows result.seat).put (view result.pass) }
-    ensures room { (result.all.items ≡ []) × (length (view result.pass).given ≤ vec_capacity result.all) }
     ensures refused { result.end ≡ NoThread → E.answers giver.new ≡ E.answers giver.old }
     ensures source { E.source giver.new ≡ E.source giver.old }
 {
@@ -93,7 +94,6 @@ fn run_scoped<
             ensures ended { HaveEnded result.1.end (vec_len crew) (view result.1.pass).ended }
             ensures stopped { (view result.1.pass).shut ≡ (view result.1.pass).ended }
             ensures ran { Ran (E.serves how.entry.now) (E.answers lent.entry.now) (E.answers result.0.now) (last_of result.1.end) crew.items result.1.crew.items (knows result.1.seat).put (view result.1.pass) }
-            ensures room { (result.1.all.items ≡ []) × (length (view result.1.pass).given ≤ vec_capacity result.1.all) }
             ensures refused { result.1.end ≡ NoThread → E.answers result.0.now ≡ E.answers lent.entry.now }
             ensures source { E.source result.0.now ≡ E.source lent.entry.now }
         {
@@ -108,15 +108,11 @@ fn run_scoped<
 }
 
 /// Nothing was asked for, since memory was refused.
-fn not_begun<N: Drop, W: Drop, T: Drop>(
-    alloc: Global,
-    workers: Vec<W>,
-    teller: T,
-) -> Shared<N, W, T>
+fn not_begun<N: Drop, W: Drop, T: Drop>(workers: Vec<W>, teller: T) -> Shared<N, W, T>
     ensures { (result.reports.items ≡ []) × (result.workers ≡ workers) × (result.teller ≡ teller) × (result.end ≡ End.NoMemory) }
 {
     Shared {
-        reports: Vec::new(alloc),
+        reports: History::new(),
         workers,
         teller,
         end: End::NoMemory,
@@ -145,21 +141,20 @@ pub fn share<
 {
     let Ok((to, from, pass)) = bounded_with::<Mark<C, N>, Hand<C>, Fair, Global>(alloc, PLACES)
     else {
-        return not_begun(alloc, crew, teller);
+        return not_begun(crew, teller);
     };
     let (desk, seat) = match Desk::open(rt, alloc, teller) {
         Ok(opened) => opened,
-        Err(refused) => return not_begun(alloc, crew, refused.value),
+        Err(refused) => return not_begun(crew, refused.value),
     };
     let Crew {
         pass,
         seat,
-        all,
         crew,
         end,
     } = run_scoped(rt, alloc, how, &from, &to, &desk, giver, pass, seat, crew);
     settle(&to, pass);
-    let (teller, reports) = desk.close(rt, seat, all);
+    let (teller, reports) = desk.close(rt, seat);
     Shared {
         reports,
         workers: crew,

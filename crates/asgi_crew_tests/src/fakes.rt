@@ -115,19 +115,23 @@ fn mixed(seed: u64, item: u64) -> u64 {
     (one ^ (one >> 31)).wrapping_mul(0x94D0_49BB_1331_11EB) >> 40
 }
 
-/// Gets reports, and keeps whether each came under the next number.
+/// Gets reports, and keeps whether each came under the next number, and is of that number or of the highest that is reported.
 #[derive(Drop)]
 pub struct Heard {
     pub count: u64,
+    pub highest: u64,
     pub is_ordered: bool,
+    pub is_matched: bool,
 }
 
 impl Heard {
-    /// Got none yet.
-    pub fn none() -> Heard {
+    /// Got none yet; no number above `highest` is reported.
+    pub fn none(highest: u64) -> Heard {
         Heard {
             count: 0,
+            highest,
             is_ordered: true,
+            is_matched: true,
         }
     }
 }
@@ -135,7 +139,8 @@ impl Heard {
 impl Teller<(u64, u64)> for Heard {
     ghost tells = { λ was is number report. is.count ≡ number };
 
-    fn tell(&mut self, number: u64, _report: &(u64, u64)) {
+    fn tell(&mut self, number: u64, report: &(u64, u64)) {
+        self.is_matched = self.is_matched && report.0 == number.min(self.highest);
         self.is_ordered = self.is_ordered && number > self.count && number - self.count == 1;
         self.count = number;
     }

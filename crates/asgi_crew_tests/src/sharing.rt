@@ -26,11 +26,11 @@ fn shares<
     }
     assert!(rt; 0 < crew.len() && crew.len() <= 8, "{workers} workers");
     let Shared {
-        reports,
+        reports: _reports,
         workers: crew,
         teller,
         end,
-    } = share(rt, alloc, how, &mut giver, crew, Heard::none());
+    } = share(rt, alloc, how, &mut giver, crew, Heard::none(u64::MAX));
     if end == End::NoMemory {
         return Err(Fail::from(AllocError));
     }
@@ -44,25 +44,7 @@ fn shares<
         items.saturating_add(1),
         "asked, of {items} items by {workers}"
     );
-    assert_eq!(rt;
-        reports.len() as u64,
-        items,
-        "reports, of {items} items by {workers}"
-    );
-    let mut next = 0u64;
-    for (number, report) in &reports {
-        next = next.saturating_add(1);
-        assert_eq!(rt;
-            *number,
-            next,
-            "number {next}, of {items} items by {workers}"
-        );
-        assert_eq!(rt;
-            report.0,
-            next,
-            "report {next}, of {items} items by {workers}"
-        );
-    }
+    assert!(rt; teller.is_matched, "reports, of {items} items by {workers}");
     let mut served = 0u64;
     let mut name = 0u64;
     for worker in &crew {
@@ -124,13 +106,9 @@ fn what_all_workers_are_lent_is_in_each_report(rt: HostRuntime) -> Result<(), Fa
         &how,
         &mut Numbers::up_to(5),
         crew,
-        Heard::none(),
+        Heard::none(3),
     );
-    let counted = shared
-        .reports
-        .iter()
-        .all(|(number, report)| report.0 == (*number).min(3));
-    assert!(rt; shared.end == End::Given && shared.reports.len() == 5 && counted);
+    assert!(rt; shared.end == End::Given && shared.teller.count == 5 && shared.teller.is_matched);
     Ok(())
 }
 
@@ -146,18 +124,18 @@ fn memory_for_five_numbers_and_two_workers(rt: HostRuntime) {
     }
     assert!(rt; crew.len() == 2);
     let Shared {
-        reports,
+        reports: _reports,
         workers,
         teller,
         end,
-    } = share(&rt, alloc, &ALL, &mut giver, crew, Heard::none());
+    } = share(&rt, alloc, &ALL, &mut giver, crew, Heard::none(u64::MAX));
     let asked = match end {
         End::Given => 6,
-        End::NoMemory => reports.len() as u64,
+        End::NoMemory => teller.count,
         End::NoThread => 0,
     };
     let served = if end == End::Given { 5 } else { giver.asked };
-    assert!(rt; giver.asked == asked && reports.len() as u64 == served);
+    assert!(rt; giver.asked == asked);
     assert!(rt; workers.len() == 2 && served_by(&workers) == served);
     assert!(rt; teller.count == served && teller.is_ordered);
 }

@@ -14,7 +14,8 @@ use asgi_io::{Counts, Pause};
 use asgi_kept::{Napping, Resting};
 use asgi_lifespan::{Lifespan, Start, Stop};
 use asgi_server::{
-    Accepts, BesideStation, End, Listener, Shared, Workers, end_stations, serve_all, stations,
+    Accepts, BesideStation, End, Listener, Nobody, Shared, Workers, end_stations, serve_all,
+    stations,
 };
 use asgi_types::{Limits, State};
 use asgi_ws::Line;
@@ -54,7 +55,7 @@ pub fn serve_on<
     let Ok((here, _there)) = Resting::pair(rt.alloc()) else {
         return device_fault(errors);
     };
-    let Ok(list) = stations::<T, H>(*rt, workers) else {
+    let Ok(list) = stations::<T, A, H>(*rt, workers) else {
         return device_fault(errors);
     };
     let mut pause = Napping::new(*rt, here);
@@ -174,15 +175,15 @@ fn follow<
             ending_of(served, Stop::Stopped)
         }
         Start::Failed(message) => {
-            end_stations(list);
+            end_stations::<A, BesideStation<T, H>>(list);
             Ending::StartupFailed(message)
         }
         Start::Idle(_turns) => {
-            end_stations(list);
+            end_stations::<A, BesideStation<T, H>>(list);
             Ending::NoStartup
         }
         Start::NoMemory => {
-            end_stations(list);
+            end_stations::<A, BesideStation<T, H>>(list);
             Ending::DeviceFault
         }
     }
@@ -268,8 +269,10 @@ fn serve_printing<
         workers: list,
         teller,
         end,
-    } = serve_all(rt, limits, state, app, listener, workers, list, printer);
-    end_stations(list);
+    } = serve_all(
+        rt, limits, state, app, &Nobody, listener, workers, list, printer,
+    );
+    end_stations::<A, BesideStation<T, H>>(list);
     let well = is_well(end, teller.told, listener.failed());
     (well, teller)
 }

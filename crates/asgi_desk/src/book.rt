@@ -1,12 +1,12 @@
 //! The one book of a desk: the seat that has it in hand may call the teller.
-ghost use Rattle.std.specs.Prelude.{◌≡◌, ℕ, ◌≤◌, [], ◌∷◌, ◌++◌, length, vec_len, vec_capacity};
+ghost use Rattle.std.specs.Prelude.{◌≡◌, ℕ, [], ◌∷◌, ◌++◌};
 ghost use Rattle.std.specs.List.Sorted.{IsPermutation};
-ghost use Rattle.asgi_desk.specs.private.Book.{told_of, waiting_of, all_of, added, Keeps, IsKept};
+ghost use Rattle.asgi_desk.specs.private.Book.{all_of, added, Keeps, IsKept};
 
-use crate::done::Done;
 use crate::place::Place;
 use crate::teller::Teller;
 use crate::waiting::{Entry, Waiting, merged};
+use asgi_io::History;
 use std::mem;
 use std::snapshot::Snapshot;
 
@@ -19,11 +19,11 @@ pub enum Last<N> {
     Put(Snapshot<(u64, N)>),
 }
 
-/// How many reports the teller got, these, those that wait, and the teller.
+/// How many reports the teller got, the list of these, which takes no bytes, those that wait, and the teller.
 #[derive(Drop)]
 pub struct Book<N: Drop, T: Drop> {
     pub(crate) count: u64,
-    pub(crate) told: Done<N>,
+    pub(crate) told: History<(u64, N)>,
     pub(crate) waiting: Waiting<N>,
     pub(crate) teller: T,
     pub(crate) last: Last<N>,
@@ -35,9 +35,10 @@ impl<N: Drop, T: Teller<N> + Drop> Book<N, T> {
         ensures none { (all_of result ≡ []) × (result.teller ≡ teller) }
         ensures kept { IsKept T.tells teller result }
     {
+        let told = History::new();
         Book {
             count: 0,
-            told: Done::Nothing,
+            told,
             waiting: Waiting::Empty,
             teller,
             last: Last::Unused,
@@ -60,18 +61,15 @@ impl<N: Drop, T: Teller<N> + Drop> Book<N, T> {
 
     /// Passes one report, whose turn it is, to the teller.
     fn tell(&mut self, entry: Entry<N>)
-        ensures told { told_of self.new.told ≡ told_of self.old.told ++ (entry.number, entry.report) ∷ [] }
+        ensures told { self.new.told.items ≡ self.old.told.items ++ (entry.number, entry.report) ∷ [] }
         ensures tells { T.tells self.old.teller self.new.teller entry.number entry.report }
         ensures count { self.new.count ≡ entry.number }
         ensures same { (self.new.waiting ≡ self.old.waiting) × (self.new.last ≡ self.old.last) }
     {
-        let Entry {
-            number,
-            report,
-            place,
-        } = entry;
+        let Entry { number, report } = entry;
         self.teller.tell(number, &report);
-        self.told.push(number, report, place);
+        let told = (number, report);
+        self.told = History::with(&self.told, &told);
         self.count = number;
     }
 
@@ -100,10 +98,9 @@ impl<N: Drop, T: Teller<N> + Drop> Book<N, T> {
         self.tell_due();
     }
 
-    /// The teller, and the reports that it got, in order.
-    pub(crate) fn into_told(self, mut all: Vec<(u64, N)>) -> (T, Vec<(u64, N)>)
-        requires { (all.items ≡ []) × (length (told_of self.told) ≤ vec_capacity all) }
-        ensures { (result.0 ≡ self.teller) × (result.1.items ≡ told_of self.told) }
+    /// The teller, and the list of the reports that it got, in order.
+    pub(crate) fn into_told(self) -> (T, History<(u64, N)>)
+        ensures { (result.0 ≡ self.teller) × (result.1.items ≡ self.told.items) }
     {
         let Book {
             count: _count,
@@ -112,8 +109,6 @@ impl<N: Drop, T: Teller<N> + Drop> Book<N, T> {
             teller,
             last: _last,
         } = self;
-        told.put_into(&mut all);
-        all.reverse();
-        (teller, all)
+        (teller, told)
     }
 }

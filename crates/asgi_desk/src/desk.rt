@@ -1,5 +1,5 @@
 //! Where reports are handed in from many threads, and passed to the teller.
-ghost use Rattle.std.specs.Prelude.{◌≡◌, ◌+◌, ◌-◌, ◌<◌, ◌≤◌, [], ◌∷◌, ◌++◌, Some, length, vec_capacity, IfOk, IfErr};
+ghost use Rattle.std.specs.Prelude.{◌≡◌, ◌+◌, ◌-◌, ◌<◌, [], ◌∷◌, ◌++◌, Some, length, IfOk, IfErr};
 ghost use Rattle.std.specs.List.Sorted.{IsPermutation};
 ghost use Rattle.asgi_desk.specs.Told.{Told, numbers_of, one_to};
 ghost use Rattle.asgi_desk.specs.Hands.{seated, IsFree};
@@ -10,6 +10,7 @@ use crate::channel::{Cut, Fair, From, Hand, To, Total};
 use crate::place::Place;
 use crate::teller::Teller;
 use crate::turn::{give, give_first, take};
+use asgi_io::History;
 use crossbeam_channel::{Pass, bounded_with};
 use std::alloc::{AllocFailed, Global};
 use std::sync::Wait;
@@ -88,23 +89,18 @@ impl<N: Drop, T: Teller<N> + Drop> Desk<N, T> {
         self.to.absorb::<Cut>(seat, other);
     }
 
-    /// The teller, and all reports in the order of their numbers, once all seats have rejoined.
-    pub fn close<R: Wait>(
-        self,
-        rt: &R,
-        mut seat: Seat<N, T>,
-        all: Vec<(u64, N)>,
-    ) -> (T, Vec<(u64, N)>)
+    /// The teller, and the list of all reports in the order of their numbers, which clauses alone read, once all seats have
+    /// rejoined.
+    pub fn close<R: Wait>(self, rt: &R, mut seat: Seat<N, T>) -> (T, History<(u64, N)>)
         requires seat { IsSeatOf self seat }
         requires whole { ((knows seat).parts ≡ 64) × IsFree (knows seat) }
         requires numbers { IsPermutation (one_to (length (knows seat).put)) (numbers_of (knows seat).put) }
-        requires room { (all.items ≡ []) × (length (knows seat).put ≤ vec_capacity all) }
         ensures each { IsPermutation (knows seat).put result.1.items }
         ensures in_order { numbers_of result.1.items ≡ one_to (length (knows seat).put) }
         ensures told { (was : T) → (knows seat).first ≡ Some was → Told T.tells was result.0 result.1.items }
     {
         let book = take(rt, &self.from, &mut seat);
         self.to.learn_as::<Total>(&mut seat);
-        book.into_told(all)
+        book.into_told()
     }
 }

@@ -5,7 +5,6 @@
 mod book;
 mod channel;
 mod desk;
-mod done;
 mod place;
 mod teller;
 mod turn;

@@ -5,16 +5,14 @@ ghost use Rattle.std.specs.List.Sorted.{IsPermutation};
 ghost use Rattle.asgi_desk.specs.private.Book.{waiting_of, IsAbove, is_due};
 ghost use Rattle.asgi_desk.specs.private.Heap.{least, is_before, IsOrdered};
 
-use crate::done::Done;
 use crate::place::Place;
 use std::mem;
 
-/// A report under its number, with its place among those that the teller got.
+/// A report under its number.
 #[derive(Drop)]
 pub struct Entry<N: Drop> {
     pub(crate) number: u64,
     pub(crate) report: N,
-    pub(crate) place: Box<Done<N>>,
 }
 
 /// The reports that wait.
@@ -73,17 +71,12 @@ impl<N: Drop> Waiting<N> {
         ensures order { IsAbove 0 result }
     {
         let Place {
-            told,
             mut left,
             mut right,
         } = place;
         *left = Waiting::Empty;
         *right = Waiting::Empty;
-        let entry = Entry {
-            number,
-            report,
-            place: told,
-        };
+        let entry = Entry { number, report };
         Waiting::Top(entry, 1, left, right)
     }
 

@@ -33,8 +33,7 @@ fn a_teller_may_borrow_what_it_writes_to(rt: HostRuntime) -> Result<(), Fail> {
     hand_in(&rt, alloc, &desk, &mut seat, 1)?;
     hand_in(&rt, alloc, &desk, &mut seat, 2)?;
     assert!(rt; is_one_to(alloc, &[3, 1, 2])?);
-    let all = Vec::with_capacity(alloc, 3)?;
-    let (clerk, _reports) = desk.close(&rt, seat, all);
+    let (clerk, _reports) = desk.close(&rt, seat);
     drop(clerk);
     assert_eq!(rt; lines.as_slice(), [1, 2, 3].as_slice());
     Ok(())

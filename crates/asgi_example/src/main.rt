@@ -2,6 +2,7 @@
 //! input to standard output.
 #![tactic(auto)]
 
+mod laws;
 mod no_content;
 mod paths;
 

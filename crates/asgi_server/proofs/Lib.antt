@@ -1,2 +1,3 @@
 pub mod AcceptLemmas
+pub mod PromiseLemmas
 pub mod StationLemmas

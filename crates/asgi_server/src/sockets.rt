@@ -17,16 +17,16 @@ use std::net::Net;
 use std::time::Clock;
 
 /// A connection over a socket: its line, the client and the server.
-type OverSocket<'a, R> = (
+pub type OverSocket<'a, R> = (
     Wired<Socket<'a, R, <R as Net>::Stream>>,
     Option<Peer>,
     Option<Peer>,
 );
 
 /// Accepts a number of connections on one port of this machine's loopback address, 127.0.0.1. The socket is opened at
-/// the first call of `next`; if it isn't available, or no connection can be accepted any more, `next` returns none, and
-/// `failed` returns true. A fault of one connection, before it was accepted, is passed over; what is accepted is given,
-/// without its client or its server if the system or memory refuses them.
+/// the first call of `next`; if it isn't available, or no connection can be accepted any more, `next` returns none,
+/// `failed` returns true, and `why` the system's error. A fault of one connection, before it was accepted, is passed over;
+/// what is accepted is given, without its client or its server if the system or memory refuses them.
 #[derive(Drop)]
 pub struct Sockets<'a, R: Net + Clock> {
     rt: &'a R,
@@ -38,6 +38,8 @@ pub struct Sockets<'a, R: Net + Clock> {
     waits: bool,
     listener: Option<R::Listener>,
     has_failed: bool,
+    // Why it has failed.
+    why: Option<io::Error>,
     // The ports, and how many connections of each.
     asked: History<(u16, u64)>,
     calls: Calls<R::Stream>,
@@ -61,6 +63,7 @@ impl<'a, R: Net + Clock> Sockets<'a, R> {
             waits: true,
             listener: None,
             has_failed: false,
+            why: None,
             asked: History::with(&none, &(port, count)),
             calls: Calls::new(),
             told: History::new(),
@@ -93,6 +96,13 @@ impl<'a, R: Net + Clock> Sockets<'a, R> {
         self.listener = None;
     }
 
+    /// Why the socket isn't available, or why no connection can be accepted any more: the system's error, once it has failed.
+    pub fn why(&self) -> Option<io::Error>
+        ensures { result ≡ self.now.why }
+    {
+        self.why
+    }
+
     /// Accepts the next connection, if one is still to be given.
     fn accept(&mut self) -> Option<OverSocket<'a, R>>
         ensures some { IfSome result (λ _. (self.old.left ≡ self.new.left + 1) × (self.new.has_failed ≡ false)) }
@@ -114,7 +124,8 @@ impl<'a, R: Net + Clock> Sockets<'a, R> {
                 self.left = left;
                 Some(connection)
             }
-            Err(_) => {
+            Err(e) => {
+                self.why = Some(e);
                 self.has_failed = true;
                 None
             }

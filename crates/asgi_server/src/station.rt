@@ -1,11 +1,15 @@
-//! What a worker serves connections with.
+//! What each worker serves its connections with, how it is made, and how it ends.
 ghost use Rattle.std.specs.Prelude.{◌≡◌, ◌+◌, ◌<◌, [], ◌∷◌, ◌++◌, All, true, is_some, vec_len, vec_capacity, IfOk, IsOk};
-ghost use Rattle.asgi_server.specs.declared.station.NoStation.TheVariants.{NoMemory};
 
-use asgi_apps::AppTask;
-use asgi_conn::{Beside, Host, Napping};
+use crate::engine::{Engine, Threadless};
+use crate::no_station::NoStation;
+use crate::serving::serve;
+use asgi_apps::{AppTask, Application};
+use asgi_conn::{Beside, Host, Napping, Report};
 use asgi_crew::Workers;
-use std::alloc::AllocError;
+use asgi_types::{Limits, Peer, State};
+use asgi_ws::Line;
+use std::alloc::AllocGlobal;
 
 /// What a worker serves connections with: what runs their exchanges, and their pause. Both are the worker's own.
 #[derive(Drop)]
@@ -19,26 +23,44 @@ pub struct Station<U: Drop, P: Drop> {
 /// A station whose tasks run in a thread of their own.
 pub type BesideStation<T, R> = Station<Beside<T, Napping<R>, R>, Napping<R>>;
 
-/// Why there are no stations.
-#[derive(Clone, Copy, Debug, PartialEq, Eq)]
-pub enum NoStation {
-    /// Memory was refused.
-    NoMemory,
-    /// A thread was refused, or memory for it.
-    NoThread,
-}
+impl<T: AppTask, A: Application<Task = T>, R: Host> Engine<A> for BesideStation<T, R> {
+    ghost answers = { A.answers };
 
-impl From<AllocError> for NoStation {
-    ghost from_gives = { λ why found. found ≡ NoMemory };
+    ghost pauses = { λ s. s.pause.count };
 
-    fn from(_: AllocError) -> NoStation {
-        NoStation::NoMemory
+    fn serve<H: AllocGlobal, L: Line + Drop>(
+        &mut self,
+        rt: &H,
+        limits: &Limits,
+        state: &State,
+        app: &A,
+        line: L,
+        client: &Option<Peer>,
+        server: &Option<Peer>,
+    ) -> Report {
+        serve(
+            rt,
+            limits,
+            state,
+            app,
+            line,
+            client,
+            server,
+            &mut self.runner,
+            &mut self.pause,
+        )
+    }
+
+    fn end(self) {
+        let Station { runner, pause: _ } = self;
+        runner.end();
     }
 }
 
 /// A station for each worker, whose tasks run in a thread of their own, which is made here and kept for all
 /// connections. `end_stations` ends these threads.
-pub fn stations<T: AppTask + Send + 'static, R: Host>(
+// The thread is made by a function for this one kind of station: the method of a trait can't make one.
+pub fn stations<T: AppTask + Send + 'static, A: Application<Task = T>, R: Host>(
     rt: R,
     workers: Workers,
 ) -> Result<Vec<BesideStation<T, R>>, NoStation>
@@ -49,7 +71,7 @@ pub fn stations<T: AppTask + Send + 'static, R: Host>(
     let mut made = Vec::new(rt.alloc());
     for _worker in 0..workers.count() {
         if let Err(why) = add(rt, &mut made) {
-            end_stations(made);
+            end_stations::<A, BesideStation<T, R>>(made);
             return Err(why);
         }
     }
@@ -86,8 +108,40 @@ fn make_station<T: AppTask + Send + 'static, R: Host>(
     }
 }
 
+/// An engine for each worker that has no thread beside it. `end_stations` ends them.
+pub fn threadless_stations<A: Application, R: Host, G: Threadless<A, R> + Drop>(
+    rt: R,
+    workers: Workers,
+) -> Result<Vec<G>, NoStation>
+    ensures many { IfOk result (λ list. vec_len list ≡ workers.count) }
+    ensures fresh { IfOk result (λ list. All (λ s. G.pauses s ≡ 0) list.items) }
+{
+    let mut made = Vec::new(rt.alloc());
+    for _engine in 0..workers.count() {
+        if let Err(why) = add_threadless::<A, R, G>(rt, &mut made) {
+            end_stations::<A, G>(made);
+            return Err(why);
+        }
+    }
+    Ok(made)
+}
+
+/// Adds one more of them.
+fn add_threadless<A: Application, R: Host, G: Threadless<A, R> + Drop>(
+    rt: R,
+    made: &mut Vec<G>,
+) -> Result<(), NoStation>
+    requires { All (λ s. G.pauses s ≡ 0) made.old.items }
+    ensures many { IsOk result → vec_len made.new ≡ vec_len made.old + 1 }
+    ensures fresh { All (λ s. G.pauses s ≡ 0) made.new.items }
+{
+    made.reserve(1)?;
+    put(made, G::make(rt)?);
+    Ok(())
+}
+
 /// Puts a station after the others, for which there is room.
-fn put<U: Drop, P: Drop>(made: &mut Vec<Station<U, P>>, station: Station<U, P>)
+fn put<G: Drop>(made: &mut Vec<G>, station: G)
     requires { vec_len made.old < vec_capacity made.old }
     ensures { made.new.items ≡ made.old.items ++ station ∷ [] }
 {
@@ -97,11 +151,10 @@ fn put<U: Drop, P: Drop>(made: &mut Vec<Station<U, P>>, station: Station<U, P>)
     }
 }
 
-/// Ends the threads of the stations, and waits until they have ended.
-pub fn end_stations<T: AppTask + Send + 'static, R: Host>(stations: Vec<BesideStation<T, R>>) {
+/// Ends what the stations keep, as their threads, and waits for that.
+pub fn end_stations<A, G: Engine<A> + Drop>(stations: Vec<G>) {
     let mut stations = stations;
     while let Some(station) = stations.pop() {
-        let Station { runner, pause: _ } = station;
-        runner.end();
+        station.end();
     }
 }

@@ -4,6 +4,8 @@
 #[cfg(test)]
 mod ends;
 #[cfg(test)]
+mod inline;
+#[cfg(test)]
 mod lives;
 #[cfg(test)]
 mod loopback;

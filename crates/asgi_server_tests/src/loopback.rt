@@ -2,13 +2,14 @@
 use crate::queue::{is_reported, serve};
 use asgi_apps::Echo;
 use asgi_conn::{Host, Outcome};
-use asgi_server::{Sockets, Workers};
+use asgi_server::{Accepts, Listener, Listening, Sockets, Workers};
 use asgi_types::{Limits, State};
 use std::alloc::{AllocError, AllocGlobal};
-use std::io::{self, Read, Write};
+use std::io::{self, ErrorKind, Read, Write};
 use std::net::{
     Ipv4Addr, Net, OpenListener, OpenStream, Shutdown, SocketAddr, TcpListener, TcpStream,
 };
+use std::sync::atomic::{AtomicBool, Ordering};
 use std::test::Fail;
 use std::thread;
 use std::time::{Clock, Duration};
@@ -89,5 +90,60 @@ fn a_client_in_a_thread_of_its_own_is_answered(rt: HostRuntime) -> Result<(), Fa
         move || serves(there, port),
     );
     assert_eq!(rt; (answered?, served?), (true, true));
+    Ok(())
+}
+
+/// Whether two connections of a socket that is open are served to their end, by two workers.
+fn serves_open<
+    K: OpenStream + Read + Write + Drop + Send,
+    N: Net<Stream = K> + Clock + Host + Sync,
+>(rt: &N, mut listener: Listening<'_, N>) -> Result<bool, AllocError>
+where
+    N::Listener: Send,
+{
+    let state = State::new(rt.alloc());
+    let Some(two) = Workers::new(2) else {
+        return Err(AllocError);
+    };
+    let reports = serve(rt, &Echo, &state, &mut listener, &Limits::usual(), two)?;
+    let ends = [(Outcome::Finished, 1), (Outcome::Finished, 1)];
+    Ok(is_reported(&reports, &ends))
+}
+
+#[test]
+fn a_socket_that_is_open_is_served(rt: HostRuntime) -> Result<(), Fail> {
+    let flag = AtomicBool::new(false);
+    let listener = Listening::open(&rt, rt.alloc(), address(0), 2, Some(&flag))?;
+    let port = listener.address()?.port();
+    let there = &rt;
+    let (answered, served) = thread::join(
+        &rt,
+        move || are_answered(there, port),
+        move || serves_open(there, listener),
+    );
+    assert_eq!(rt; (answered?, served?), (true, true));
+    Ok(())
+}
+
+#[test]
+fn a_flag_ends_a_listener(rt: HostRuntime) -> Result<(), Fail> {
+    let flag = AtomicBool::new(false);
+    let mut listener = Listening::open(&rt, rt.alloc(), address(0), 2, Some(&flag))?;
+    flag.store(true, Ordering::SeqCst);
+    let is_over = listener.next().is_none();
+    assert!(rt; is_over && !listener.failed() && listener.why().is_none());
+    Ok(())
+}
+
+#[test]
+fn an_address_in_use_is_refused(rt: HostRuntime) -> Result<(), Fail> {
+    let taken = Listening::open(&rt, rt.alloc(), address(0), 1, None)?;
+    let port = taken.address()?.port();
+    let kind = match Listening::open(&rt, rt.alloc(), address(port), 1, None) {
+        Ok(_) => None,
+        Err(e) => Some(e.kind()),
+    };
+    drop(taken);
+    assert!(rt; kind == Some(ErrorKind::AddrInUse));
     Ok(())
 }

@@ -1,12 +1,13 @@
 //! Connections in memory, and workers that serve them.
-ghost use Rattle.std.specs.Prelude.{◌≡◌, []};
+ghost use Rattle.std.specs.Prelude.{◌≡◌, [], vec_len};
 
 use asgi_apps::{AppTask, Application};
 use asgi_conn::{Host, Line, Outcome, Report};
 use asgi_fakes::texts::SERVER_ERROR;
 use asgi_io::History;
 use asgi_server::{
-    End as Why, Listener, Shared, Teller, Workers, end_stations, serve_all, stations,
+    End as Why, Engine, Listener, Nobody, Shared, Teller, Workers, end_stations, serve_all,
+    stations,
 };
 use asgi_types::{Limits, Peer, State};
 use asgi_ws::{Pair, Wired};
@@ -85,17 +86,24 @@ pub fn is_reported(reports: &[(u64, Report)], ends: &[End]) -> bool {
     at == ends.len()
 }
 
-/// Gets reports, and keeps none.
+/// Keeps the reports that it gets, unless memory for one is refused.
 #[derive(Drop)]
-struct Unheard;
-
-impl Teller<Report> for Unheard {
-    ghost tells = { λ _ _ _ _. Unit {0} };
-
-    fn tell(&mut self, _number: u64, _report: &Report) {}
+struct Kept {
+    reports: Vec<(u64, Report)>,
+    lacks: bool,
 }
 
-/// Serves what the listener gives, with this state, by this many workers.
+impl Teller<Report> for Kept {
+    ghost tells = { λ _ _ _ _. Unit {0} };
+
+    fn tell(&mut self, number: u64, report: &Report) {
+        if self.reports.push((number, *report)).is_err() {
+            self.lacks = true;
+        }
+    }
+}
+
+/// Serves what the listener gives, with this state, by this many workers, each with a thread for its tasks.
 pub fn serve<
     H: Host + Sync,
     T: AppTask + Send + 'static,
@@ -110,20 +118,67 @@ pub fn serve<
     limits: &Limits,
     workers: Workers,
 ) -> Result<Vec<(u64, Report)>, AllocError> {
-    let Ok(list) = stations::<T, H>(*rt, workers) else {
+    let Ok(list) = stations::<T, A, H>(*rt, workers) else {
         return Err(AllocError);
     };
+    serve_with(rt, app, state, listener, limits, workers, list)
+}
+
+/// The same by these engines.
+pub fn serve_with<
+    H: Host + Sync,
+    A: Send + Sync,
+    L: Line + Drop + Send,
+    N: Listener<L = L> + Send,
+    G: Engine<A> + Drop + Send,
+>(
+    rt: &H,
+    app: &A,
+    state: &State,
+    listener: &mut N,
+    limits: &Limits,
+    workers: Workers,
+    list: Vec<G>,
+) -> Result<Vec<(u64, Report)>, AllocError>
+    requires { vec_len list ≡ workers.count }
+{
+    let kept = Kept {
+        reports: Vec::new(rt.alloc()),
+        lacks: false,
+    };
     let Shared {
-        reports,
+        reports: _reports,
         workers: list,
-        teller: _teller,
+        teller: kept,
         end,
-    } = serve_all(rt, limits, state, app, listener, workers, list, Unheard);
-    end_stations(list);
-    if end == Why::Given {
+    } = serve_all(
+        rt, limits, state, app, &Nobody, listener, workers, list, kept,
+    );
+    end_stations::<A, G>(list);
+    let Kept { reports, lacks } = kept;
+    if end == Why::Given && !lacks {
         return Ok(reports);
     }
     Err(AllocError)
+}
+
+/// Serves a connection for each output, with these inputs in turn, by these engines.
+pub fn serve_feed_with<H: Host + Sync, A: Send + Sync, G: Engine<A> + Drop + Send>(
+    rt: &H,
+    app: &A,
+    state: &State,
+    inputs: &[&[u8]],
+    outputs: &mut [Vec<u8>],
+    limits: &Limits,
+    workers: Workers,
+    list: Vec<G>,
+) -> Result<Vec<(u64, Report)>, AllocError>
+    requires { vec_len list ≡ workers.count }
+{
+    let mut feed = Feed::new(rt.alloc(), inputs, outputs);
+    let reports = serve_with(rt, app, state, &mut feed, limits, workers, list);
+    drop(feed);
+    reports
 }
 
 /// Serves a connection for each output, with these inputs in turn, by this many workers.

@@ -1,7 +1,5 @@
 -- What a book has, and what holds of it.
 use Rattle.std.specs.Prelude.{◌≡◌, ℕ, ◌+◌, ◌≤◌, ◌==◌, Bool, false, List, [], ◌∷◌, ◌++◌, Option, Some}
-use Rattle.asgi_desk.specs.declared.done.Done.{Done}
-use Rattle.asgi_desk.specs.declared.done.Done.TheVariants.{Nothing, Report'}
 use Rattle.asgi_desk.specs.declared.waiting.Waiting.{Waiting}
 use Rattle.asgi_desk.specs.declared.waiting.Waiting.TheVariants.{Empty, Top'}
 use Rattle.asgi_desk.specs.declared.book.Last.{Last}
@@ -10,11 +8,6 @@ use Rattle.asgi_desk.specs.declared.book.Book.{Book}
 use Rattle.asgi_desk.specs.Told.{Told, numbers_of, one_to}
 
 module _ {N : Type 0} where
-  -- the reports that the teller got, in the order in which it did
-  abbrev pub told_of : Done N → List (ℕ × N)
-  told_of Nothing = []
-  told_of (Report' n r p before) = told_of before ++ (n, r) ∷ []
-
   -- the reports that wait
   abbrev pub waiting_of : Waiting N → List (ℕ × N)
   waiting_of Empty = []
@@ -37,7 +30,7 @@ module _ {N : Type 0} where
 module _ {N T : Type 0} where
   -- all reports in the book
   abbrev pub all_of : Book N T → List (ℕ × N)
-  all_of b = told_of b.told ++ waiting_of b.waiting
+  all_of b = b.told.items ++ waiting_of b.waiting
 
   -- what was handed in last
   abbrev pub added : Book N T → List (ℕ × N)
@@ -46,8 +39,8 @@ module _ {N T : Type 0} where
 module _ {N T : Type 0} (tells : T → T → ℕ → N → Type 0) where
   -- Since the teller was `was`, it got the reports with the numbers 1, 2, 3 .. up to the count, each once, in this order
   pub record Keeps (was : T) (b : Book N T) : Type 0 where
-    pub told : Told tells was b.teller (told_of b.told)
-    pub numbers : numbers_of (told_of b.told) ≡ one_to b.count
+    pub told : Told tells was b.teller b.told.items
+    pub numbers : numbers_of b.told.items ≡ one_to b.count
     pub order : IsAbove 0 b.waiting
 
   -- the same, and no report waits whose turn it is

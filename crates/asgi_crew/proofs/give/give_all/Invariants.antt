@@ -1,4 +1,4 @@
-use Rattle.std.proofs.Common.{◌≡◌, ◌≤◌, ◌<◌, ◌++◌, [], Some, map, length, vec_capacity}
+use Rattle.std.proofs.Common.{◌≡◌, ◌<◌, ◌++◌, Some, map, length}
 use Rattle.crossbeam_channel.specs.Claims.{view, IsSeatAt}
 use Rattle.crossbeam_channel.specs.Ends.{sends_on}
 use Rattle.asgi_crew.specs.private.Channel.{hand}
@@ -14,7 +14,5 @@ invariant-loop g l = record {
   answers : g.E.Asks.answers l.giver ≡ g.E.Asks.answers l.fn.giver ++ map Some (items_of (view l.pass).given);
   numbers : (view l.pass).given ≡ numbered 0 (items_of (view l.pass).given);
   count : length (view l.pass).given ≡ l.given;
-  room : l.given ≤ vec_capacity l.all;
-  none : l.all.items ≡ [];
   source : g.E.Asks.source l.giver ≡ g.E.Asks.source l.fn.giver;
 }

@@ -1,4 +1,4 @@
-use Rattle.std.proofs.Common.{◌≡◌, [], ◌∷◌, ◌++◌, length, vec_len, refl, ap, sym, ◌∙◌, rules, arith, subst}
+use Rattle.std.proofs.Common.{◌≡◌, [], ◌∷◌, ◌++◌, vec_len, refl, ap, sym, ◌∙◌, rules, subst}
 use Rattle.std.proofs.lemmas.List.{nil_from_length}
 use Rattle.crossbeam_channel.specs.Claims.{view}
 use Rattle.asgi_desk.specs.declared.channel.Hand as desk
@@ -28,11 +28,6 @@ returns-in_default-clause-ran g t c =
     c.give_all-end.ensures.answers c.give_all-end.ensures.numbers
     (ap (λ (h : Hand g.row.C.Denot). h.given) gave) (ap (λ (h : Hand g.row.C.Denot). h.taken) gave)
 
-pub returns-in_default-clause-room : goal.returns-in_default-clause-room
-returns-in_default-clause-room g t c =
-    let room = c.give_all-end.ensures.room in
-    let same = ap (λ (h : Hand g.row.C.Denot). length h.given) c.give_stops.ensures.gave in (room.0, omega (arith, room.1))
-
 pub returns-in_default-clause-refused : goal.returns-in_default-clause-refused
 returns-in_default-clause-refused g t c = λ e. absurd (c.give_all-end.ensures.begun e)
 
@@ -45,7 +40,7 @@ returns-in-Ok-clause-ran g t c =
     let turn = subst (λ (e : g.row.E.Denot). InTurn (g.E.Serves.serves e) c.in-Some.worker worked.worker (view worked.pass).taken (knows worked.seat).put) same-how
     (subst (λ (w : g.row.W.Denot). InTurn (g.E.Serves.serves c.in-Ok.child.promise.how.value) w worked.worker (view worked.pass).taken (knows worked.seat).put) same c.join-worked.ensures.3) in
     subst (λ (e : End). Ran (g.E.Serves.serves c.args.how.now) (g.E.Asks.answers c.args.giver.now) (g.E.Asks.answers c.run-so_far.new.giver) (last_of e) c.args.crew.items c.joined.result.crew.items (knows c.joined.result.seat).put (view c.joined.result.pass))
-    (sym c.joined.ensures.same.1)
+    (sym c.joined.ensures.same)
     (one_more_at (g.E.Serves.serves c.args.how.now) _ _ _ _ _ _ _ _ _ _ _ _ _ _ _ c.run-so_far.ensures.ran turn
     (ap (λ (h : Hand g.row.C.Denot). h.given) c.joined.ensures.pass) (ap (λ (h : Hand g.row.C.Denot). h.taken) c.joined.ensures.pass)
     (ap (λ (h : desk.Hand g.row.N.Denot g.row.T.Denot). h.put) c.joined.ensures.put) was c.joined.ensures.crew.0)
@@ -65,7 +60,7 @@ returns-in-Err-clause-ran g t c =
     let answers = g.E.Asks.answers c.args.giver.now in
     let none = none_started (g.E.Serves.serves c.args.how.now) answers answers c.pop.new.self.items (knows c.seat-place.new.seat).put (view stopped) refl put given taken in
     subst (λ (e : End). Ran (g.E.Serves.serves c.args.how.now) answers answers (last_of e) c.args.crew.items c.joined-in-Err.result.crew.items (knows c.joined-in-Err.result.seat).put (view c.joined-in-Err.result.pass))
-    (sym c.joined-in-Err.ensures.same.1)
+    (sym c.joined-in-Err.ensures.same)
     (one_more_at (g.E.Serves.serves c.args.how.now) _ _ _ _ _ _ _ _ _ _ _ _ _ _ _ none turn
     (ap (λ (h : Hand g.row.C.Denot). h.given) c.joined-in-Err.ensures.pass) (ap (λ (h : Hand g.row.C.Denot). h.taken) c.joined-in-Err.ensures.pass)
     (ap (λ (h : desk.Hand g.row.N.Denot g.row.T.Denot). h.put) c.joined-in-Err.ensures.put) was c.joined-in-Err.ensures.crew.0)

@@ -6,7 +6,7 @@ use Rattle.asgi_desk.specs.Seat.{knows}
 use Rattle.asgi_crew.specs.declared.give.End.{End}
 use Rattle.asgi_crew.specs.Ran.{last_of}
 use Rattle.asgi_crew.specs.Shared.{IsShared}
-use Rattle.asgi_crew.proofs.Turns.{all_numbered, as_many, not_begun, shared}
+use Rattle.asgi_crew.proofs.Turns.{all_numbered, not_begun, shared}
 use Rattle.asgi_crew.proofs.sharing.share.Goals as goal
 
 pub returns-in_default-clause-shared : goal.returns-in_default-clause-shared
@@ -19,12 +19,6 @@ returns-in-Err-clause-shared g c =
 
 pub close-teller-requires-clause-numbers : goal.close-teller-requires-clause-numbers
 close-teller-requires-clause-numbers g c = all_numbered (g.E.Serves.serves c.args.how.now) _ _ _ _ _ _ _ c.run_scoped-pass.ensures.ran c.settle.ensures
-
-pub close-teller-requires-clause-room : goal.close-teller-requires-clause-room
-close-teller-requires-clause-room g c =
-    let many = as_many (g.E.Serves.serves c.args.how.now) _ _ _ _ _ _ _ c.run_scoped-pass.ensures.ran in
-    let long = length_permutation _ _ c.settle.ensures in
-    let room = c.run_scoped-pass.ensures.room in (room.0, omega (arith, room.1))
 
 pub returns-clause-shared : goal.returns-clause-shared
 returns-clause-shared g c =

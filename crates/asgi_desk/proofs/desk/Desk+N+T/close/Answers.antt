@@ -1,6 +1,5 @@
-use Rattle.std.proofs.Common.{List, ℕ, ap, ◌∙◌, subst, sym, arith}
+use Rattle.std.proofs.Common.{List, ℕ, ap, ◌∙◌, subst, sym}
 use Rattle.std.specs.List.Sorted.{IsPermutation}
-use Rattle.std.proofs.lemmas.List.Sorted.{length_permutation}
 use Rattle.crossbeam_channel.specs.Claims.{view}
 use Rattle.asgi_desk.specs.declared.channel.Hand.{Hand}
 use Rattle.asgi_desk.specs.Told.{numbers_of}
@@ -14,11 +13,6 @@ learn_as-requires-clause-rule g c =
     learns g.T.Teller.tells c.take-book.new.seat.id (view c.take-book.new.seat)
     (ap (λ (h : Hand g.row.N.Denot g.row.T.Denot). h.parts) took ∙ c.requires.whole.0)
     (ap (λ (h : Hand g.row.N.Denot g.row.T.Denot). h.books) took)
-
-pub into_told-requires : goal.into_told-requires
-into_told-requires g c =
-    let closed = closes_at g.T.Teller.tells (view c.args.seat) (view c.take-book.new.seat) c.take-book.result c.take-book.ensures.kept c.take-book.ensures.took c.learn_as.ensures.rule.1 c.requires.numbers in
-    let long = length_permutation _ _ closed.each in (c.requires.room.0, omega (arith, c.requires.room.1))
 
 pub returns-clause-each : goal.returns-clause-each
 returns-clause-each g c =

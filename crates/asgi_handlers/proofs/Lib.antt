@@ -1,0 +1,5 @@
+pub mod HearingLemmas
+pub mod ParamLemmas
+pub mod SendingLemmas
+pub mod TaskLemmas
+pub mod MakingLemmas

@@ -1,0 +1,5 @@
+pub mod Handling
+pub mod Making
+pub mod Params
+pub mod Replies
+pub mod private

@@ -1,0 +1,118 @@
+//! The application of a handler.
+ghost use Rattle.std.specs.Prelude.{◌≡◌, [], IfOk, OnErr, Some};
+ghost use Rattle.std.specs.Result.{IsErrOf};
+ghost use Rattle.asgi_types.specs.declared.end_kind.EndKind.TheVariants.{Faulted};
+ghost use Rattle.asgi_types.specs.declared.scope.Kind.TheVariants as kind;
+ghost use Rattle.asgi_apps.specs.Answers.{Answers, not_found_answer};
+ghost use Rattle.asgi_apps.specs.Scopes.{kind_of};
+ghost use Rattle.asgi_handlers.specs.Handling.{Begins, IsDenied};
+
+use crate::handler::Handler;
+use crate::handling::Handling;
+use asgi_apps::{AppFault, AppTask, Application, NotFound, Says};
+use asgi_pipes::AppEnd;
+use asgi_types::{HttpScope, Scope};
+use futures::task::{Context, Poll};
+use std::alloc::Global;
+
+/// As many bytes as `Limits::usual` lets a body have.
+pub(crate) const USUAL: usize = 1_048_576;
+
+/// The application of a handler. It receives each request whole, calls the handler once, and sends
+/// its reply: a start, and one body. It refuses each session, and in a lifespan scope its call
+/// fails, as that of `NotFound` does.
+#[derive(Clone, Copy, Debug)]
+pub struct Handled<H> {
+    /// What gives the replies.
+    pub handler: H,
+    /// The most bytes of a body. The task of a request with a longer one faults. A server limits
+    /// bodies too, and its answer to a longer one is 413 (`Limits::max_body`).
+    pub max_body: usize,
+}
+
+/// The task of the application of a handler.
+#[derive(Drop)]
+pub enum HandledTask<H> {
+    /// A request is received, handled and answered.
+    Handles(Handling<H>),
+    /// A session is refused.
+    Denies(Says),
+}
+
+impl<H> Handled<H> {
+    /// The application of this handler, with bodies of at most 1,048,576 bytes.
+    pub fn new(handler: H) -> Self
+        ensures handler { result.handler ≡ handler }
+        ensures limit { result.max_body ≡ 1048576 }
+    {
+        Handled {
+            handler,
+            max_body: USUAL,
+        }
+    }
+}
+
+impl<H: Handler + Copy + Drop> Application for Handled<H> {
+    ghost use Rattle.asgi_handlers.specs.Replies.{HandledAnswers};
+
+    type Task = HandledTask<H>;
+
+    ghost answers = { λ app. HandledAnswers H.replies app.handler };
+
+    ghost refuses = { λ _ scope. kind_of scope ≡ kind.Lifespan };
+
+    fn call(&self, alloc: Global, scope: &Scope) -> Result<HandledTask<H>, AppFault> {
+        match scope {
+            Scope::Http(request) => self.begin(alloc, request),
+            Scope::WebSocket(_) => deny(alloc, scope),
+            Scope::Lifespan(_) => Err(AppFault::Failed),
+        }
+    }
+}
+
+impl<H: Copy> Handled<H> {
+    /// A task that receives the request of this scope. `NoMemory` if memory for its copy is refused.
+    fn begin(&self, alloc: Global, scope: &HttpScope) -> Result<HandledTask<H>, AppFault>
+        ensures begins { IfOk result (λ task. Begins task self.now.handler scope.now) }
+        ensures memory { ¬ (IsErrOf result AppFault.Failed) }
+    {
+        match scope.copy(alloc) {
+            Ok(copied) => Ok(HandledTask::Handles(Handling::new(
+                alloc,
+                self.handler,
+                copied,
+                self.max_body,
+            ))),
+            Err(e) => Err(AppFault::NoMemory(e)),
+        }
+    }
+}
+
+/// A task that gives what `NotFound` gives in this scope.
+pub(crate) fn deny<H>(alloc: Global, scope: &Scope) -> Result<HandledTask<H>, AppFault>
+    ensures denies { IfOk result (λ task. IsDenied task scope.now) }
+    ensures failed { IsErrOf result AppFault.Failed → kind_of scope.now ≡ kind.Lifespan }
+    ensures fault { OnErr result (Answers (not_found_answer scope.now) [] [] (Some Faulted)) }
+{
+    match NotFound.call(alloc, scope) {
+        Ok(says) => Ok(HandledTask::Denies(says)),
+        Err(e) => Err(e),
+    }
+}
+
+impl<H: Handler + Drop> AppTask for HandledTask<H> {
+    ghost use Rattle.asgi_handlers.specs.Handling.{TaskAnswers, TaskStands, task_keeps};
+
+    ghost stands = { TaskStands H.replies };
+
+    ghost answers = { TaskAnswers H.replies };
+
+    fn poll<E: AppEnd>(&mut self, cx: &mut Context<'_>, end: &mut E) -> Poll<Result<(), AppFault>> {
+        match self {
+            HandledTask::Handles(task) => task.poll(cx, end),
+            HandledTask::Denies(says) => says.poll(cx, end),
+        }
+    }
+
+    ghost keeps = { task_keeps H.replies };
+}

@@ -1,0 +1,23 @@
+//! Handlers without a state machine: each gets a whole request and gives a whole reply. The
+//! application that calls them is ready.
+#![tactic(auto)]
+
+mod asking;
+mod handled;
+mod handler;
+mod handling;
+mod params;
+mod receiving;
+mod reply;
+mod request;
+mod segments;
+mod sending;
+mod shared;
+
+pub use asking::ask;
+pub use handled::{Handled, HandledTask};
+pub use handler::Handler;
+pub use handling::Handling;
+pub use reply::Reply;
+pub use request::Request;
+pub use shared::{Held, Shared};

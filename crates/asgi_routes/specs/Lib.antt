@@ -1,0 +1,6 @@
+pub mod Adding
+pub mod Endpoints
+pub mod Laws
+pub mod Methods
+pub mod Patterns
+pub mod Routing

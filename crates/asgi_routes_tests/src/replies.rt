@@ -1,0 +1,248 @@
+//! Which endpoint replies, with which parameters, and what is replied where none does.
+use crate::asked::{Row, first_unlike};
+use crate::endpoints::{Fails, File, Item, Place, Word};
+use asgi_handlers::Handler;
+use asgi_routes::{Chain, Empty, Method, RouteError, Routes};
+use std::alloc::Global;
+use std::test::Fail;
+
+type Items = Chain<Word, Chain<Word, Chain<Item, Chain<Word, Chain<Word, Empty>>>>>;
+
+/// A shop. `/items/{n}` is added in two steps, with another pattern between them.
+type Shop = Chain<Fails, Chain<File, Chain<Place, Items>>>;
+
+fn items(alloc: Global) -> Result<Routes<Items>, RouteError> {
+    Routes::new(alloc)
+        .get("/", Word("index"))?
+        .post("/items", Word("added"))?
+        .get("/items/{n}", Item)?
+        .get("/items/new", Word("new"))?
+        .delete("/items/{n}", Word("gone"))
+}
+
+fn shop(alloc: Global) -> Result<Routes<Shop>, RouteError> {
+    items(alloc)?
+        .get("/shops/{shop}/items/{n}", Place)?
+        .get("/files/{*rest}", File)?
+        .route(Method::Put, "/fails", Fails)
+}
+
+/// A table that is made again if memory was refused.
+fn shop_at_last(alloc: Global) -> Result<Routes<Shop>, RouteError> {
+    match shop(alloc) {
+        Err(RouteError::NoMemory(_)) => shop(alloc),
+        made => made,
+    }
+}
+
+const INDEX: &str = "200 content-type=text/plain; charset=utf-8 content-length=5|index";
+
+const ITEM: &str = "200 content-type=text/plain; charset=utf-8 content-length=6|item 7";
+
+const NOT_FOUND: &str = "404 content-length=0|";
+
+/// The patterns, and the methods of each.
+const ROUTED: &[Row] = &[
+    ("GET", "/", "", INDEX),
+    (
+        "POST",
+        "/items",
+        "",
+        "200 content-type=text/plain; charset=utf-8 content-length=5|added",
+    ),
+    ("GET", "/items/7", "", ITEM),
+    (
+        "DELETE",
+        "/items/7",
+        "",
+        "200 content-type=text/plain; charset=utf-8 content-length=4|gone",
+    ),
+    // The pattern without a parameter is the narrower.
+    (
+        "GET",
+        "/items/new",
+        "",
+        "200 content-type=text/plain; charset=utf-8 content-length=3|new",
+    ),
+    (
+        "GET",
+        "/shops/b/items/7",
+        "",
+        "200 content-type=text/plain; charset=utf-8 content-length=11|item 7 of b",
+    ),
+    // A catch-all takes the slashes too. Its endpoint has no parameter of another route.
+    (
+        "GET",
+        "/files/a/b",
+        "",
+        "200 content-type=text/plain; charset=utf-8 content-length=16|file a/b, n none",
+    ),
+    // A path is decoded, so a parameter is: `/items/a%20b`, `/items/%25`, `/items/%C3%BC`.
+    (
+        "GET",
+        "/items/a b",
+        "",
+        "200 content-type=text/plain; charset=utf-8 content-length=8|item a b",
+    ),
+    (
+        "GET",
+        "/items/%",
+        "",
+        "200 content-type=text/plain; charset=utf-8 content-length=6|item %",
+    ),
+    (
+        "GET",
+        "/items/ü",
+        "",
+        "200 content-type=text/plain; charset=utf-8 content-length=7|item ü",
+    ),
+    ("PUT", "/fails", "", "failed"),
+];
+
+/// RFC 9110, 9.3.2: a HEAD request is answered as GET, without the content, which the server leaves
+/// out.
+const HEADS: &[Row] = &[
+    ("HEAD", "/", "", INDEX),
+    ("HEAD", "/items/7", "", ITEM),
+    (
+        "HEAD",
+        "/items",
+        "",
+        "405 content-length=0 allow=OPTIONS, POST|",
+    ),
+];
+
+/// RFC 9110, 15.5.5: no pattern matches the path.
+const UNFOUND: &[Row] = &[
+    ("GET", "", "", NOT_FOUND),
+    ("GET", "/item", "", NOT_FOUND),
+    ("GET", "/items/", "", NOT_FOUND),
+    ("GET", "/items/7/", "", NOT_FOUND),
+    ("GET", "/items/7/8", "", NOT_FOUND),
+    ("GET", "/files/", "", NOT_FOUND),
+    ("GET", "/Items/7", "", NOT_FOUND),
+    ("DELETE", "/none", "", NOT_FOUND),
+    ("OPTIONS", "/none", "", NOT_FOUND),
+    ("OPTIONS", "*", "", NOT_FOUND),
+];
+
+/// RFC 9110, 15.5.6: a pattern matches, and has no endpoint for the method. The methods of another
+/// pattern are not its.
+const NOT_ALLOWED: &[Row] = &[
+    (
+        "GET",
+        "/items",
+        "",
+        "405 content-length=0 allow=OPTIONS, POST|",
+    ),
+    (
+        "PUT",
+        "/items/7",
+        "",
+        "405 content-length=0 allow=OPTIONS, GET, HEAD, DELETE|",
+    ),
+    (
+        "DELETE",
+        "/items/new",
+        "",
+        "405 content-length=0 allow=OPTIONS, GET, HEAD|",
+    ),
+    (
+        "BREW",
+        "/",
+        "",
+        "405 content-length=0 allow=OPTIONS, GET, HEAD|",
+    ),
+    (
+        "get",
+        "/",
+        "",
+        "405 content-length=0 allow=OPTIONS, GET, HEAD|",
+    ),
+    (
+        "HEAD",
+        "/fails",
+        "",
+        "405 content-length=0 allow=OPTIONS, PUT|",
+    ),
+];
+
+/// RFC 9110, 9.3.7 and 10.2.1: what is allowed.
+const ALLOWED: &[Row] = &[
+    ("OPTIONS", "/", "", "204 allow=OPTIONS, GET, HEAD|"),
+    ("OPTIONS", "/items", "", "204 allow=OPTIONS, POST|"),
+    (
+        "OPTIONS",
+        "/items/7",
+        "",
+        "204 allow=OPTIONS, GET, HEAD, DELETE|",
+    ),
+];
+
+/// ASGI, HTTP connection scope: `path` has the prefix `root_path`, under which it is mounted.
+const MOUNTED: &[Row] = &[
+    ("GET", "/m/items/7", "/m", ITEM),
+    ("GET", "/m/", "/m", INDEX),
+    ("GET", "/m", "/m", NOT_FOUND),
+    // The path does not begin with the prefix: it is taken whole.
+    ("GET", "/items/7", "/m", ITEM),
+];
+
+fn unlike(alloc: Global, rows: &[Row]) -> Result<Option<&'static str>, Fail> {
+    let routes = shop_at_last(alloc)?;
+    Ok(first_unlike(alloc, &routes, rows))
+}
+
+#[test]
+fn the_endpoint_of_the_pattern_and_the_method_replies(rt: HostRuntime) -> Result<(), Fail> {
+    assert_eq!(rt; unlike(rt.alloc(), ROUTED)?, None);
+    Ok(())
+}
+
+#[test]
+fn head_is_answered_as_get(rt: HostRuntime) -> Result<(), Fail> {
+    assert_eq!(rt; unlike(rt.alloc(), HEADS)?, None);
+    Ok(())
+}
+
+#[test]
+fn no_pattern_is_not_found(rt: HostRuntime) -> Result<(), Fail> {
+    assert_eq!(rt; unlike(rt.alloc(), UNFOUND)?, None);
+    Ok(())
+}
+
+#[test]
+fn no_endpoint_for_the_method_is_not_allowed(rt: HostRuntime) -> Result<(), Fail> {
+    assert_eq!(rt; unlike(rt.alloc(), NOT_ALLOWED)?, None);
+    Ok(())
+}
+
+#[test]
+fn options_are_what_is_allowed(rt: HostRuntime) -> Result<(), Fail> {
+    assert_eq!(rt; unlike(rt.alloc(), ALLOWED)?, None);
+    Ok(())
+}
+
+#[test]
+fn a_mounted_table_sees_the_path_after_its_mount(rt: HostRuntime) -> Result<(), Fail> {
+    assert_eq!(rt; unlike(rt.alloc(), MOUNTED)?, None);
+    Ok(())
+}
+
+const EMPTY: &[Row] = &[("GET", "/", "", NOT_FOUND), ("OPTIONS", "/", "", NOT_FOUND)];
+
+#[test]
+fn a_table_without_routes_finds_nothing(rt: HostRuntime) -> Result<(), Fail> {
+    let routes = Routes::new(rt.alloc());
+    assert_eq!(rt; first_unlike(rt.alloc(), &routes, EMPTY), None);
+    Ok(())
+}
+
+#[test]
+fn memory_for_a_table_and_its_replies(rt: HostRuntime) -> Result<(), Fail> {
+    assert_eq!(rt; unlike(rt.alloc(), ROUTED)?, None);
+    assert_eq!(rt; unlike(rt.alloc(), NOT_ALLOWED)?, None);
+    assert_eq!(rt; unlike(rt.alloc(), ALLOWED)?, None);
+    assert_eq!(rt; unlike(rt.alloc(), UNFOUND)?, None);
+    Ok(())
+}

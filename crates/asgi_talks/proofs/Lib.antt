@@ -1,0 +1,7 @@
+pub mod BothLemmas
+pub mod HearingLemmas
+pub mod ListLemmas
+pub mod QuietLemmas
+pub mod SayingLemmas
+pub mod StepLemmas
+pub mod TaskLemmas

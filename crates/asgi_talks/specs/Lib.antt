@@ -1,0 +1,7 @@
+pub mod Answering
+pub mod Both
+pub mod Making
+pub mod Quiet
+pub mod Sessions
+pub mod Talking
+pub mod private

@@ -1,0 +1,105 @@
+//! One application for requests and one for sessions.
+ghost use Rattle.std.specs.Prelude.{◌≡◌, List, [], Option, Some, IfOk, OnErr};
+ghost use Rattle.std.specs.Result.{IsErrOf};
+ghost use Rattle.asgi_types.specs.declared.incoming.Incoming.{Incoming};
+ghost use Rattle.asgi_types.specs.declared.outgoing.Outgoing.{Outgoing};
+ghost use Rattle.asgi_types.specs.declared.end_kind.EndKind.{EndKind};
+ghost use Rattle.asgi_types.specs.declared.end_kind.EndKind.TheVariants.{Faulted};
+ghost use Rattle.asgi_apps.specs.Scopes.{kind_of};
+ghost use Rattle.asgi_talks.specs.Both.{BothAnswers, BothStands};
+
+use asgi_apps::{AppFault, AppTask, Application};
+use asgi_pipes::AppEnd;
+use asgi_types::Scope;
+use futures::task::{Context, Poll};
+use std::alloc::Global;
+
+/// Two applications as one: requests go to the first, sessions to the second. A lifespan scope goes
+/// to that of requests.
+#[derive(Clone, Copy, Debug)]
+pub struct Both<A, B> {
+    /// The application of requests.
+    pub http: A,
+    /// The application of sessions.
+    pub ws: B,
+}
+
+/// The task of one of the two.
+#[derive(Drop)]
+pub enum BothTask<T, U> {
+    /// A task of the application of requests.
+    Http(T),
+    /// A task of the application of sessions.
+    WebSocket(U),
+}
+
+impl<A: Application, B: Application> Application for Both<A, B> {
+    ghost use Rattle.asgi_talks.specs.Both.{BothAnswer, BothRefuse};
+
+    type Task = BothTask<A::Task, B::Task>;
+
+    ghost answers = { λ both. BothAnswer A.answers B.answers both.http both.ws };
+
+    ghost refuses = { λ both. BothRefuse A.refuses B.refuses both.http both.ws };
+
+    fn call(&self, alloc: Global, scope: &Scope) -> Result<BothTask<A::Task, B::Task>, AppFault> {
+        match scope {
+            Scope::Http(_) => self.call_http(alloc, scope),
+            Scope::WebSocket(_) => self.call_ws(alloc, scope),
+            Scope::Lifespan(_) => self.call_http(alloc, scope),
+        }
+    }
+}
+
+impl<A: Application, B: Application> Both<A, B> {
+    /// Calls the application of requests.
+    fn call_http(
+        &self,
+        alloc: Global,
+        scope: &Scope,
+    ) -> Result<BothTask<A::Task, B::Task>, AppFault>
+        ensures stands { IfOk result (λ task. BothStands A.Task.AppTask.stands B.Task.AppTask.stands task (kind_of scope.now) [] []) }
+        ensures answers { IfOk result (λ task. (heard : List Incoming) (said : List Outgoing) (ended : Option EndKind)
+            → BothAnswers A.Task.AppTask.answers B.Task.AppTask.answers task heard said ended
+            → A.answers self.now.http scope.now heard said ended) }
+        ensures failed { IsErrOf result AppFault.Failed → A.refuses self.now.http scope.now }
+        ensures fault { OnErr result (A.answers self.now.http scope.now [] [] (Some Faulted)) }
+    {
+        match self.http.call(alloc, scope) {
+            Ok(task) => Ok(BothTask::Http(task)),
+            Err(e) => Err(e),
+        }
+    }
+
+    /// Calls the application of sessions.
+    fn call_ws(&self, alloc: Global, scope: &Scope) -> Result<BothTask<A::Task, B::Task>, AppFault>
+        ensures stands { IfOk result (λ task. BothStands A.Task.AppTask.stands B.Task.AppTask.stands task (kind_of scope.now) [] []) }
+        ensures answers { IfOk result (λ task. (heard : List Incoming) (said : List Outgoing) (ended : Option EndKind)
+            → BothAnswers A.Task.AppTask.answers B.Task.AppTask.answers task heard said ended
+            → B.answers self.now.ws scope.now heard said ended) }
+        ensures failed { IsErrOf result AppFault.Failed → B.refuses self.now.ws scope.now }
+        ensures fault { OnErr result (B.answers self.now.ws scope.now [] [] (Some Faulted)) }
+    {
+        match self.ws.call(alloc, scope) {
+            Ok(task) => Ok(BothTask::WebSocket(task)),
+            Err(e) => Err(e),
+        }
+    }
+}
+
+impl<T: AppTask, U: AppTask> AppTask for BothTask<T, U> {
+    ghost use Rattle.asgi_talks.specs.Both.{both_keeps};
+
+    ghost stands = { BothStands T.stands U.stands };
+
+    ghost answers = { BothAnswers T.answers U.answers };
+
+    fn poll<E: AppEnd>(&mut self, cx: &mut Context<'_>, end: &mut E) -> Poll<Result<(), AppFault>> {
+        match self {
+            BothTask::Http(task) => task.poll(cx, end),
+            BothTask::WebSocket(task) => task.poll(cx, end),
+        }
+    }
+
+    ghost keeps = { both_keeps T.stands T.answers U.stands U.answers T.keeps U.keeps };
+}

@@ -1,0 +1,26 @@
+//! WebSocket sessions without a state machine: a talker opens each session, and what it gives
+//! answers the session's messages. The application that calls them is ready.
+#![tactic(auto)]
+
+mod answer;
+mod both;
+mod hosted;
+pub mod laws;
+mod messages;
+mod opened;
+mod quiet;
+mod receiving;
+mod sending;
+mod talked;
+mod talker;
+mod talking;
+
+pub use answer::{Answer, Close};
+pub use both::{Both, BothTask};
+pub use hosted::{Hosted, HostedTalker};
+pub use messages::Messages;
+pub use opened::Opened;
+pub use quiet::{Hushed, Quiet};
+pub use talked::{Talked, TalkedTask, Told};
+pub use talker::{Talk, Talker, Tells};
+pub use talking::Talking;

@@ -1,0 +1,3 @@
+pub mod ServingLemmas
+pub mod LivesLemmas
+pub mod RunLemmas

@@ -1,0 +1,3 @@
+pub mod private
+pub mod Serving
+pub mod Running

@@ -1,0 +1,23 @@
+//! Where the tasks of a server run.
+use asgi_conn::Host;
+use asgi_server::InlineStation;
+use std::marker::PhantomData;
+
+/// Each in a thread beside its connection's worker, which is kept for all of them.
+#[derive(Clone, Copy, Debug)]
+pub struct InThread;
+
+/// Each in its connection's worker itself, which serves with such an engine.
+#[derive(Drop)]
+pub struct InWorker<G> {
+    engines: PhantomData<G>,
+}
+
+impl<R: Host> InWorker<InlineStation<R>> {
+    /// With the engine that a server has for this.
+    pub fn of(_rt: &R) -> Self {
+        InWorker {
+            engines: PhantomData,
+        }
+    }
+}

@@ -1,0 +1,54 @@
+//! What is told of connections.
+
+use asgi_conn::Report;
+use asgi_server::{OnEnd, Teller};
+use asgi_types::Peer;
+use log::{Log, info};
+use std::sync::atomic::{AtomicU64, Ordering};
+
+/// Gets reports, and tells nobody.
+#[derive(Drop)]
+pub struct Quiet;
+
+impl Teller<Report> for Quiet {
+    ghost tells = { λ _ _ _ _. Unit {0} };
+
+    fn tell(&mut self, _number: u64, _report: &Report) {}
+}
+
+/// Writes a line of the log as each connection ends: how many have ended with it, its client, how many requests it had, and
+/// how it ended.
+#[derive(Drop)]
+pub struct LogLines<'a, R> {
+    rt: &'a R,
+    ended: AtomicU64,
+}
+
+impl<'a, R: Log> LogLines<'a, R> {
+    /// Writes to this log.
+    pub fn new(rt: &'a R) -> Self {
+        LogLines {
+            rt,
+            ended: AtomicU64::new(0),
+        }
+    }
+}
+
+impl<'a, R: Log> OnEnd for LogLines<'a, R> {
+    fn ended(&self, report: &Report, client: &Option<Peer>) {
+        let rt = self.rt;
+        let number = self.ended.fetch_add(1, Ordering::SeqCst).saturating_add(1);
+        let requests = report.exchanges;
+        let outcome = report.outcome;
+        match client {
+            Some(peer) => {
+                let host = peer.host.as_str();
+                let port = peer.port;
+                info!(rt; "connection {number}: {host} port {port}, {requests} requests, {outcome}");
+            }
+            None => {
+                info!(rt; "connection {number}: {requests} requests, {outcome}");
+            }
+        }
+    }
+}

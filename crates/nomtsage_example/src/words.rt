@@ -1,0 +1,64 @@
+//! The words of the command line.
+use crate::silent::Silent;
+use std::env;
+use std::io::Write;
+use std::net::SocketAddr;
+use std::process::ExitCode;
+use std::rt::Env;
+
+/// The application that is to be served.
+#[derive(Clone, Copy, Debug)]
+pub enum App {
+    Hello,
+    Ends,
+    Fails,
+    NoStart,
+    NoStop,
+    Silent(Silent),
+}
+
+/// What the words ask for.
+#[derive(Clone, Copy, Debug)]
+pub struct Words {
+    pub address: SocketAddr,
+    pub count: u64,
+    pub workers: u64,
+    pub app: App,
+}
+
+/// The words after the program's name, if each is there and is one.
+pub fn words_of<H: Env + AllocGlobal>(rt: &H) -> Option<Words> {
+    let mut words = env::args(rt).ok()?.skip(1);
+    let address = words.next()?.parse::<SocketAddr>().ok()?;
+    let count = words.next()?.parse::<u64>().ok()?;
+    let workers = words.next()?.parse::<u64>().ok()?;
+    let name = words.next()?;
+    let app = app_named(name.as_str())?;
+    Some(Words {
+        address,
+        count,
+        workers,
+        app,
+    })
+}
+
+fn app_named(name: &str) -> Option<App> {
+    match name {
+        "hello" => Some(App::Hello),
+        "ends" => Some(App::Ends),
+        "fails" => Some(App::Fails),
+        "nostart" => Some(App::NoStart),
+        "nostop" => Some(App::NoStop),
+        "silentstart" => Some(App::Silent(Silent::Start)),
+        "silentstop" => Some(App::Silent(Silent::Stop)),
+        _ => None,
+    }
+}
+
+/// Prints how the program is called.
+pub fn usage<W: Write>(out: &mut W) -> ExitCode {
+    match writeln!(out, "usage: nomtsage_example ADDRESS COUNT WORKERS APP") {
+        Ok(()) => ExitCode::from(2),
+        Err(_) => ExitCode::from(5),
+    }
+}
