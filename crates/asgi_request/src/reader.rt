@@ -81,9 +81,6 @@ impl RequestReader {
         ensures err { OnErr result (self.new ≡ self.old) }
         ensures full { OnErr result (LacksRoom self.old.capacity (length self.old.held) piece.now) }
     {
-        if self.feed_within(piece) {
-            return Ok(());
-        }
         self.compact();
         if self.feed_within(piece) {
             return Ok(());
