@@ -5,7 +5,13 @@ use asgi_types::{Asgi, Chars, Extensions, Headers, HttpScope, HttpVersion, Kind,
 use std::alloc::{AllocError, Global};
 
 /// A method, a path, the prefix of it under which the application is mounted, and what is replied.
-pub type Row = (&'static str, &'static str, &'static str, &'static str);
+#[derive(Clone, Copy, Debug)]
+pub struct Row(
+    pub &'static str,
+    pub &'static str,
+    pub &'static str,
+    pub &'static str,
+);
 
 fn chars(alloc: Global, text: &str) -> Result<Chars, AllocError> {
     Ok(Chars::new(String::from_str(alloc, text)?))
@@ -50,7 +56,7 @@ fn scope_of(
 
 /// Whether the handler replies to the request what the row holds.
 fn is_replied<H: Handler>(alloc: Global, handler: &H, row: Row) -> Result<bool, AppFault> {
-    let (method, path, root_path, expected) = row;
+    let Row(method, path, root_path, expected) = row;
     let scope = scope_of(alloc, method, path, root_path)?;
     let request = Request::new(alloc, &scope, &[], b"abc");
     let reply = handler.handle(&request)?;
@@ -83,16 +89,16 @@ fn is_replied_at_last<H: Handler>(alloc: Global, handler: &H, row: Row) -> Resul
     }
 }
 
-/// What the first row holds that the handler does not reply. For a fault of its own a row holds
+/// The number of the first row that the handler does not reply. For a fault of its own a row holds
 /// `failed`.
-pub fn first_unlike<H: Handler>(alloc: Global, handler: &H, rows: &[Row]) -> Option<&'static str> {
-    for row in rows {
+pub fn first_unlike<H: Handler>(alloc: Global, handler: &H, rows: &[Row]) -> Option<usize> {
+    for (number, row) in rows.iter().enumerate() {
         let is_same = match is_replied_at_last(alloc, handler, *row) {
             Ok(is_same) => is_same,
             Err(_) => row.3 == "failed",
         };
         if !is_same {
-            return Some(row.3);
+            return Some(number);
         }
     }
     None

@@ -57,8 +57,10 @@ impl<A: Application, R: Host> Engine<A> for InlineStation<R> {
 }
 
 impl<A: Application, R: Host> Threadless<A, R> for InlineStation<R> {
-    fn make(rt: R) -> Result<InlineStation<R>, NoStation> {
-        make_inline(rt)
+    fn of(solo: Solo, pause: Napping<R>) -> InlineStation<R>
+        ensures { result.pause.count ≡ pause.count }
+    {
+        InlineStation { solo, pause }
     }
 
     ghost keeps = { λ app. record { within = λ scope heard said ended so. so } };
@@ -95,14 +97,13 @@ fn serve_inline<H: AllocGlobal, A: Application, L: Line + Drop, P: Pause>(
     report
 }
 
-/// A station that has not paused yet.
-fn make_inline<R: Host>(rt: R) -> Result<InlineStation<R>, NoStation>
-    ensures { IfOk result (λ s. s.pause.count ≡ 0) }
+/// What a station without a thread is made of: what runs its tasks, and its pause, which it has not made yet.
+pub(crate) fn make_parts<R: Host>(rt: R) -> Result<(Solo, Napping<R>), NoStation>
+    ensures { IfOk result (λ parts. parts.1.count ≡ 0) }
 {
     let Ok(solo) = Solo::new(&rt, Doorbell::spinning()) else {
         return Err(NoStation::NoMemory);
     };
     let (here, _there) = Resting::pair(rt.alloc())?;
-    let pause = Napping::new(rt, here);
-    Ok(InlineStation { solo, pause })
+    Ok((solo, Napping::new(rt, here)))
 }

@@ -2,6 +2,7 @@
 ghost use Rattle.std.specs.Prelude.{◌≡◌, ◌+◌, ◌<◌, [], ◌∷◌, ◌++◌, All, true, is_some, vec_len, vec_capacity, IfOk, IsOk};
 
 use crate::engine::{Engine, Threadless};
+use crate::inline_station::make_parts;
 use crate::no_station::NoStation;
 use crate::serving::serve;
 use asgi_apps::{AppTask, Application};
@@ -136,7 +137,8 @@ fn add_threadless<A: Application, R: Host, G: Threadless<A, R> + Drop>(
     ensures fresh { All (λ s. G.pauses s ≡ 0) made.new.items }
 {
     made.reserve(1)?;
-    put(made, G::make(rt)?);
+    let (solo, pause) = make_parts(rt)?;
+    put(made, G::of(solo, pause));
     Ok(())
 }
 

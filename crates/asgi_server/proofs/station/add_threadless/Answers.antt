@@ -4,6 +4,6 @@ use Rattle.asgi_server.proofs.station.add_threadless.Goals as goal
 
 pub returns-clause-fresh : goal.returns-clause-fresh
 returns-clause-fresh g c =
-    let one = c.in_ok-make.field-0 in
-    all_more (λ s. g.G.Engine.pauses s ≡ 0) c.args.made.now.items c.put.new.made.items one c.requires c.in_ok-make.ensures
+    let one = c.of.result in
+    all_more (λ s. g.G.Engine.pauses s ≡ 0) c.args.made.now.items c.put.new.made.items one c.requires (c.of.ensures ∙ c.in_ok-make_parts.ensures)
     (c.put.ensures ∙ ap (λ list. list ++ one ∷ []) c.reserve.ensures.items)
