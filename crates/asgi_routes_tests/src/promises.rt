@@ -30,8 +30,8 @@ impl Endpoint for Returns {
 }
 
 const RETURNED: &[Row] = &[
-    ("GET", "/7", "", "200 content-type=a/b content-length=1|7"),
-    (
+    Row("GET", "/7", "", "200 content-type=a/b content-length=1|7"),
+    Row(
         "POST",
         "/7",
         "",
@@ -39,7 +39,7 @@ const RETURNED: &[Row] = &[
     ),
 ];
 
-fn unlike(alloc: Global) -> Result<Option<&'static str>, RouteError> {
+fn unlike(alloc: Global) -> Result<Option<usize>, RouteError> {
     let routes = Routes::new(alloc).get("/{n}", Returns)?;
     Ok(first_unlike(alloc, &routes, RETURNED))
 }
