@@ -1,5 +1,5 @@
 -- How a call of a wired line relates to the call of the message layer below it.
-use Rattle.std.specs.Prelude.{◌≡◌, ◌≢◌, ℕ, ◌<◌, List, [], ◌∷◌, Option, Some, None, Result, Ok, Err, length, ◌⊎◌, ⊤, true, false}
+use Rattle.std.specs.Prelude.{◌≡◌, ◌≢◌, ℕ, ◌<◌, List, [], ◌∷◌, Option, Some, None, Result, Ok, Err, length, ◌⊎◌, ⊤, Bool, true, false}
 use Rattle.asgi_types.specs.declared.incoming.Payload.{Payload}
 use Rattle.asgi_types.specs.declared.incoming.Payload.TheVariants as payload
 use Rattle.tungstenite.specs.declared.message.Message.{Message}
@@ -128,27 +128,27 @@ failing_code (Err (Capacity cause)) = Some why.Size
 failing_code _ = None
 
 module _ {S : Type 0} where
-  -- what the layer does with a close of this code and no reason
-  abbrev pub close_step_of : Socket (Tap S) → CloseCode → Result Effect FrameError
-  close_step_of s reason = write_step s.conn (wire.close (Some (reason, [])))
+  -- a session of which it is said whether it still stands
+  abbrev pub if_stands : Bool → Socket (Tap S) → Option (Socket (Tap S))
+  if_stands true t = Some t
+  if_stands false t = None
 
-  -- A close with this code and no reason stands behind what was waiting, and went out as far as the stream took it; or nothing changed, since
-  -- there was no room or no memory for it; or the layer sends none in the state that it is in.
-  abbrev pub TellsWhy : (Tap S → Option (List ℕ)) → Socket (Tap S) → Socket (Tap S) → Option CloseCode → Type 0
-  TellsWhy contents s t None = t ≡ s
-  TellsWhy contents s t (Some reason) = Writes contents s t (close_step_of s reason)
-      ⊎ (t ≡ s) ⊎ ((x : FrameError) × (close_step_of s reason ≡ Err x))
+  -- A session whose client is told why it fails: a close with this code and no reason stands behind what was waiting, and went out as far as the
+  -- stream took it; or nothing changed, for want of memory; or the session is no more, since the layer had no room for the close.
+  abbrev pub TellsWhy : (Tap S → Option (List ℕ)) → Socket (Tap S) → Option (Socket (Tap S)) → Option CloseCode → Type 0
+  TellsWhy contents s new None = new ≡ Some s
+  TellsWhy contents s None (Some reason) = ⊤
+  TellsWhy contents s (Some t) (Some reason) = Writes contents s t (close_step s.conn (Some (reason, []))) ⊎ (t ≡ s)
 
   -- Each result comes from one `read` of the layer. Where that failed by the client's fault, a close tells why.
-  abbrev pub AnswersBy : (remaining contents : Tap S → Option (List ℕ)) → Socket (Tap S) → Socket (Tap S) → Got → Type 0
-  AnswersBy remaining contents s t answer = (given : Result Message Error) × (after : Socket (Tap S))
-      × Reads remaining s after given × IsAnswerTo given after.stream.stop answer × TellsWhy contents after t (failing_code given)
+  abbrev pub AnswersBy : (remaining contents : Tap S → Option (List ℕ)) → Socket (Tap S) → Option (Socket (Tap S)) → Got → Type 0
+  AnswersBy remaining contents s new answer = (given : Result Message Error) × (after : Socket (Tap S))
+      × Reads remaining s after given × IsAnswerTo given after.stream.stop answer × TellsWhy contents after new (failing_code given)
 
   -- and with no layer each read fails
   abbrev pub AnswersRead : (remaining contents : Tap S → Option (List ℕ)) → Option (Socket (Tap S)) → Option (Socket (Tap S)) → Got → Type 0
-  AnswersRead remaining contents None new answer = answer ≡ got.Failed
-  AnswersRead remaining contents (Some s) None answer = ⊥
-  AnswersRead remaining contents (Some s) (Some t) answer = AnswersBy remaining contents s t answer
+  AnswersRead remaining contents None new answer = (answer ≡ got.Failed) × (new ≡ None)
+  AnswersRead remaining contents (Some s) new answer = AnswersBy remaining contents s new answer
 
   -- a send that the layer refused, or whose bytes the stream did not take: then the rest of them waits. The session stays
   abbrev pub IsRefused : (Tap S → Option (List ℕ)) → Option (Socket (Tap S)) → Option (Socket (Tap S)) → (Connection → Result Effect FrameError) → Type 0

@@ -1,6 +1,6 @@
 //! The calls of the message layer, on a session that may not have begun.
 ghost use Rattle.std.specs.Prelude.{◌≡◌};
-ghost use Rattle.asgi_ws.specs.Wires.{AnswersRead, AnswersBy, IsSessionOn, IsSent, IfDone, IfFailed, IfNoMemory, IsRefused, IsPutOf, TellsWhy, failing_code, payload_step, closing_step};
+ghost use Rattle.asgi_ws.specs.Wires.{AnswersRead, AnswersBy, IsSessionOn, IsSent, IfDone, IfFailed, IfNoMemory, IsRefused, IsPutOf, TellsWhy, failing_code, if_stands, payload_step, closing_step};
 
 use crate::convert::{answer_to, message_with};
 use crate::messages::{Got, Put};
@@ -37,19 +37,25 @@ pub fn session_on<S: Drop>(alloc: Global, stream: S, leftover: Vec<u8>) -> Sessi
 pub fn read<S: Stream + Drop>(alloc: Global, session: &mut Option<Session<S>>) -> Got
     ensures { AnswersRead (λ t. S.remaining t.stream) (λ t. S.contents t.stream) session.old session.new result }
 {
-    match session {
-        Some(socket) => read_next(alloc, socket),
-        None => Got::Failed,
+    let Some(socket) = session else {
+        return Got::Failed;
+    };
+    let (answer, stands) = read_next(alloc, socket);
+    if stands {
+        return answer;
     }
+    *session = None;
+    answer
 }
 
-fn read_next<S: Stream + Drop>(alloc: Global, socket: &mut Session<S>) -> Got
-    ensures { AnswersBy (λ t. S.remaining t.stream) (λ t. S.contents t.stream) socket.old socket.new result }
+/// The next message, and whether the session stands after it.
+fn read_next<S: Stream + Drop>(alloc: Global, socket: &mut Session<S>) -> (Got, bool)
+    ensures { AnswersBy (λ t. S.remaining t.stream) (λ t. S.contents t.stream) socket.old (if_stands result.1 socket.new) result.0 }
 {
     let given = socket.read();
     let stop = socket.get_ref().stop;
-    tell_why(socket, code_of(&given));
-    answer_to(alloc, given, stop)
+    let stands = tell_why(socket, code_of(&given));
+    (answer_to(alloc, given, stop), stands)
 }
 
 /// The code of the close that tells a client why its session fails; `None` where it is not the
@@ -65,18 +71,23 @@ fn code_of(given: &Result<Message, Error>) -> Option<CloseCode>
     }
 }
 
-/// Sends a close with the code, if there is one, and no reason. A close that is refused is not tried
-/// again: the session has failed.
-fn tell_why<S: Stream + Drop>(socket: &mut Session<S>, code: Option<CloseCode>)
-    ensures { TellsWhy (λ t. S.contents t.stream) socket.old socket.new code }
+/// Sends a close with the code, if there is one, and no reason, and returns whether the session
+/// stands. A close that is refused is not tried again: the session has failed. The layer refuses
+/// none for want of room, but its contract allows that, and says nothing of what is left then.
+fn tell_why<S: Stream + Drop>(socket: &mut Session<S>, code: Option<CloseCode>) -> bool
+    ensures { TellsWhy (λ t. S.contents t.stream) socket.old (if_stands result socket.new) code }
 {
     let Some(code) = code else {
-        return;
+        return true;
     };
-    let _told = socket.send(Message::Close(Some(CloseFrame {
+    let told = socket.close(Some(CloseFrame {
         code,
         reason: Utf8Bytes::new(),
-    })));
+    }));
+    match told {
+        Ok(()) | Err(Error::Io(_) | Error::OutOfMemory) => true,
+        Err(_) => false,
+    }
 }
 
 /// Sends a payload. `Failed` if no session has begun or the layer refuses it, `NoMemory` if memory
