@@ -3,9 +3,14 @@ use asgi_apps::AppFault;
 use asgi_handlers::{Reply, Request};
 use asgi_routes::Endpoint;
 
-/// Replies with this word.
+/// Replies with its name, in small letters.
 #[derive(Clone, Copy, Debug)]
-pub struct Word(pub &'static str);
+pub enum Word {
+    Index,
+    Added,
+    New,
+    Gone,
+}
 
 /// Replies with the parameter `n`.
 #[derive(Clone, Copy, Debug)]
@@ -33,7 +38,13 @@ fn taken<'a>(request: &'a Request<'_>, name: &str) -> &'a str {
 
 impl Endpoint for Word {
     fn reply(&self, request: &Request<'_>) -> Result<Reply, AppFault> {
-        Ok(Reply::text(request.alloc(), self.0)?)
+        let word = match self {
+            Word::Index => "index",
+            Word::Added => "added",
+            Word::New => "new",
+            Word::Gone => "gone",
+        };
+        Ok(Reply::text(request.alloc(), word)?)
     }
 }
 

@@ -9,7 +9,7 @@ fn second(alloc: Global, first: (Method, &str), second: (Method, &str)) -> Optio
     let Ok(routes) = Routes::new(alloc).route(first.0, first.1, Item) else {
         return None;
     };
-    match routes.route(second.0, second.1, Word("a")) {
+    match routes.route(second.0, second.1, Word::Index) {
         Ok(_) => None,
         Err(why) => Some(why),
     }

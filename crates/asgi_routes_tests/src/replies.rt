@@ -13,11 +13,11 @@ type Shop = Chain<Fails, Chain<File, Chain<Place, Items>>>;
 
 fn items(alloc: Global) -> Result<Routes<Items>, RouteError> {
     Routes::new(alloc)
-        .get("/", Word("index"))?
-        .post("/items", Word("added"))?
+        .get("/", Word::Index)?
+        .post("/items", Word::Added)?
         .get("/items/{n}", Item)?
-        .get("/items/new", Word("new"))?
-        .delete("/items/{n}", Word("gone"))
+        .get("/items/new", Word::New)?
+        .delete("/items/{n}", Word::Gone)
 }
 
 fn shop(alloc: Global) -> Result<Routes<Shop>, RouteError> {
