@@ -2,4 +2,4 @@ pub mod WordLemmas
 pub mod ServingLemmas
 pub mod TellingLemmas
 pub mod PutLemmas
-pub mod LivesLemmas
+pub mod EndedLemmas

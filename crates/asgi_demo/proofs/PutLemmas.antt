@@ -1,5 +1,5 @@
 -- Texts that are written one after another are one text.
-use Rattle.std.proofs.Common.{◌≡◌, ◌∙◌, ℕ, suc, ◌+◌, Bool, true, false, List, [], ◌∷◌, ◌++◌, length, take, Option, All, map, refl, sym, ap, ap₂, subst, arith, codes, replicate, length-append, append_assoc, append-nil, zero-add}
+use Rattle.std.proofs.Common.{◌≡◌, ◌∙◌, ℕ, suc, ◌+◌, Bool, true, false, List, [], ◌∷◌, ◌++◌, length, take, Option, refl, sym, ap, ap₂, subst, arith, codes, replicate, length-append, append_assoc, append-nil, zero-add}
 use Rattle.std.proofs.KnownBytes.{Appends-nil, Appends-trans}
 use Rattle.std.proofs.lemmas.List.Elements.{All-append, All-head, All-tail}
 use Rattle.std.proofs.lemmas.List.Sums.{sum_by-append}
@@ -146,9 +146,3 @@ pub stays : {T X N : Type 0} (tells : T → T → ℕ → N → Type 0) (part : 
     → (was is : T) (reports : List (ℕ × N)) → Told tells was is reports → part is ≡ part was
 stays tells part same was is [] told = ap part told
 stays tells part same was is (r ∷ rs) told = stays tells part same told.0 is rs told.2 ∙ same was told.0 r.0 r.1 told.1
-
--- each count is none
-pub all_none : {A : Type 0} (count : A → ℕ) (xs : List A) → All (λ x. count x ≡ 0) xs → map count xs ≡ replicate (length xs) 0
-all_none count [] all = refl
-all_none count (x ∷ xs) all =
-    ap₂ (λ (n : ℕ) (l : List ℕ). n ∷ l) (All-head (λ x. count x ≡ 0) x xs all) (all_none count xs (All-tail (λ x. count x ≡ 0) x xs all))

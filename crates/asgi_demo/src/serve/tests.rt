@@ -7,7 +7,7 @@ use asgi_io::{Counted, History};
 use asgi_pipes::AppEnd;
 use asgi_types::{Peer, Scope};
 use asgi_ws::{Pair, Wired};
-use futures::task::Poll;
+use futures::task::{Context, Poll};
 use std::alloc::Global;
 use std::io::{self, ErrorKind, Write};
 use std::test::Fail;

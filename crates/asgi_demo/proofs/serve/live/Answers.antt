@@ -1,7 +1,0 @@
-use Rattle.asgi_demo.proofs.LivesLemmas.{lives_of, uncounted}
-use Rattle.asgi_demo.proofs.serve.live.Goals as goal
-
-pub returns-clause-lives : goal.returns-clause-lives
-returns-clause-lives g c =
-    lives_of g.L.Line.state (g.A.Application.answers c.args.app.now) c.args.limits.now c.args.workers.count _ g.T.AppTask _ _ _ (g.P.Pause.count c.start-answer.new.pause) _ _
-    c.start-answer.result (uncounted g.P.Pause.count _ _ c.start-answer.ensures.starts) c.follow.ensures.follows
