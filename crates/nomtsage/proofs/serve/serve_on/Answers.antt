@@ -5,5 +5,6 @@ use Rattle.nomtsage.proofs.serve.serve_on.Goals as goal
 pub returns-in-Err-clause-serves : goal.returns-in-Err-clause-serves
 returns-in-Err-clause-serves g c = inr (refl, c.without_stations.ensures)
 
+-- in each thread, whatever its lifetimes are
 pub run-requires-clause-within : goal.run-requires-clause-within
-run-requires-clause-within g c = within_itself (g.A.Application.answers c.args.app.now)
+run-requires-clause-within g c lifetimes outlive = within_itself (g.A.Application.answers c.args.app.now)
