@@ -25,7 +25,7 @@ fn main(rt: HostRuntime) -> Result<ExitCode, AppFault> {
         return Ok(usage(&rt));
     };
     let alloc = rt.alloc();
-    let server = Server::on(port).connections(count);
+    let server = Server::on(port).connections(count).log_connections(&rt);
     match app {
         App::Orders => Ok(server.serve(&rt, &Handled::new(Orders))),
         App::Counts => {
