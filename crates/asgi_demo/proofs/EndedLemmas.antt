@@ -25,17 +25,17 @@ use Rattle.asgi_demo.specs.private.Ended.{LivesOn, ending_with}
 use Rattle.asgi_demo.proofs.PutLemmas.{printed, stays}
 
 -- the end by why no more connections were asked for, and by whether the lines went out
-ends_so : (e : End) (failed told : Bool) (answer : Stop) → ending_with told (lib.ending_of (lib.served_of e failed) answer) ≡ ending_of (gave_all e && told && not failed) answer
+ends_so : (e : End) (failed told : Bool) (answer : Stop) → ending_with told (lib.ending_of (lib.served_of e lost) answer) ≡ ending_of (gave_all e && told && not lost) answer
 ends_so end.Given true true answer = refl
 ends_so end.Given true false answer = refl
 ends_so end.Given false true stop.Stopped = refl
 ends_so end.Given false true (stop.Failed message) = refl
 ends_so end.Given false true (stop.Idle turns) = refl
 ends_so end.Given false false answer = refl
-ends_so end.NoMemory failed true answer = refl
-ends_so end.NoMemory failed false answer = refl
-ends_so end.NoThread failed true answer = refl
-ends_so end.NoThread failed false answer = refl
+ends_so end.NoMemory lost true answer = refl
+ends_so end.NoMemory lost false answer = refl
+ends_so end.NoThread lost true answer = refl
+ends_so end.NoThread lost false answer = refl
 
 no_memory : (told : Bool) → ending_with told ended.NoMemory ≡ DeviceFault
 no_memory true = refl
