@@ -25,7 +25,7 @@ use Rattle.asgi_demo.specs.private.Ended.{LivesOn, ending_with}
 use Rattle.asgi_demo.proofs.PutLemmas.{printed, stays}
 
 -- the end by why no more connections were asked for, and by whether the lines went out
-ends_so : (e : End) (failed told : Bool) (answer : Stop) → ending_with told (lib.ending_of (lib.served_of e lost) answer) ≡ ending_of (gave_all e && told && not lost) answer
+ends_so : (e : End) (lost told : Bool) (answer : Stop) → ending_with told (lib.ending_of (lib.served_of e lost) answer) ≡ ending_of (gave_all e && told && not lost) answer
 ends_so end.Given true true answer = refl
 ends_so end.Given true false answer = refl
 ends_so end.Given false true stop.Stopped = refl
