@@ -322,7 +322,7 @@ class Library(unittest.TestCase):
                 line.sendall(b"GET / HTTP/1.0\r\n\r\n")
                 self.assertTrue(read_all(line).startswith(b"HTTP/1.1 204 No Content\r\n"))
             told, status = own.ended()
-            self.assertEqual((sorted(told[1:]), status), ([f"connection {number}: 1 requests, finished" for number in (1, 2)], 0))
+            self.assertEqual((sorted(told[1:]), status), (["connection 1: 1 requests, refused 500", "connection 2: 1 requests, finished"], 0))
 
     def test_a_stop_that_fails(self):
         with Own("nostop") as own:
