@@ -464,8 +464,7 @@ fn is_said_at_last<R: RandomSource + AllocGlobal, A: Application + Copy + Drop>(
 ) -> bool {
     match run(rt, app, row) {
         Ok(true) => true,
-        Ok(false) => run(rt, app, row).unwrap_or(false),
-        Err(AppFault::NoMemory(_)) => run(rt, app, row).unwrap_or(false),
+        Ok(false) | Err(AppFault::NoMemory(_)) => is_said(rt, app, row),
         Err(AppFault::Failed) => row.2 == "faulted",
     }
 }
