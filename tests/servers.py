@@ -391,7 +391,14 @@ class Guide(unittest.TestCase):
     """The programs of docs/GUIDE.md: what `make new` makes, and the applications that come after it."""
 
     DOCUMENT = "docs/GUIDE.md"
-    ENDED = ("", [], 0)
+
+    def assert_ended(self, served, *requests, how="finished"):
+        """It printed nothing, wrote a line of the log for each connection, with so many requests each, and ended well."""
+        output, lines, status = served.ended()
+        self.assertEqual((output, status), ("", 0))
+        found = [re.fullmatch(r"connection (\d+): (\d+) requests, (.*)", it).groups() for it in lines]
+        self.assertEqual(sorted(int(number) for number, _, _ in found), list(range(1, len(requests) + 1)))
+        self.assertEqual(sorted((int(many), end) for _, many, end in found), sorted((many, how) for many in requests))
 
     def curl(self, served, path="/", *words):
         """The status, the content type and the body that curl gets."""
@@ -440,7 +447,7 @@ class Guide(unittest.TestCase):
         with Served("asgi_guide_example", 3, "counts") as served:
             for number in (1, 2, 3):
                 self.assertEqual(self.curl(served), ("200", "text/plain; charset=utf-8", f"request {number}\n"))
-            self.assertEqual(served.ended(), self.ENDED)
+            self.assert_ended(served, 1, 1, 1)
 
     def asked(self, line, path="/"):
         """The status and the content of the response to one more request of a connection."""
@@ -465,14 +472,15 @@ class Guide(unittest.TestCase):
             # Of two requests of one client the later one has the larger number.
             for it in found:
                 self.assertEqual(it, sorted(it, key=lambda found: int(found[1].split()[1])))
-            self.assertEqual(served.ended(), self.ENDED)
+            self.assert_ended(served, 50, 50)
 
     def test_a_pool_of_one_is_busy_until_what_was_taken_is_given_back(self):
         with Served("asgi_guide_example", 2, "pool") as served:
             slow, quick = served.connect(), served.connect()
             # The question of the first client takes three seconds; the second one asks until it finds the pool busy with that.
             slow.request("GET", "/3000")
-            wait_for(lambda: self.asked(quick, "/0") == (503, ""), "the pool is never busy")
+            asks = []
+            wait_for(lambda: asks.append("/0") or self.asked(quick, "/0") == (503, ""), "the pool is never busy")
             answer = slow.getresponse()
             self.assertEqual(answer.status, 200)
             number = int(answer.read().split()[1])
@@ -481,7 +489,7 @@ class Guide(unittest.TestCase):
             self.assertEqual(self.asked(slow, "/1"), (200, f"question {number + 2}\n"))
             slow.close()
             quick.close()
-            self.assertEqual(served.ended(), self.ENDED)
+            self.assert_ended(served, 2, len(asks) + 1)
 
     def test_a_cache_computes_each_answer_once_and_keeps_a_hundred(self):
         with Served("asgi_guide_example", 2, "cache") as served:
@@ -494,7 +502,7 @@ class Guide(unittest.TestCase):
             for path, number in (("/b", 2), ("/a", 1), *((f"/{it}", it) for it in range(3, 102)), ("/a", 1), ("/101", 101), ("/b", 102)):
                 self.assertEqual(self.asked(other, path), (200, f"answer {number}: {path}\n"))
             other.close()
-            self.assertEqual(served.ended(), self.ENDED)
+            self.assert_ended(served, 3, 104)
 
     @needs("curl")
     def test_an_order_is_answered_with_what_it_costs(self):
@@ -504,7 +512,7 @@ class Guide(unittest.TestCase):
         with Served("asgi_guide_example", len(rows), "orders") as served:
             for order, status, body in rows:
                 self.assertEqual(self.curl(served, "/", "--data-binary", order), (status, "application/json", body))
-            self.assertEqual(served.ended(), self.ENDED)
+            self.assert_ended(served, *[1] * len(rows))
 
     @needs("curl")
     def test_an_order_may_come_in_pieces(self):
@@ -514,7 +522,7 @@ class Guide(unittest.TestCase):
             file.flush()
             words = ["-H", "Transfer-Encoding: chunked", "--data-binary", f"@{file.name}"]
             self.assertEqual(self.curl(served, "/", *words), ("200", "application/json", '{"cents":75}'))
-            self.assertEqual(served.ended(), self.ENDED)
+            self.assert_ended(served, 1)
 
     @needs("curl")
     def test_an_order_that_is_too_long_is_refused(self):
@@ -522,7 +530,7 @@ class Guide(unittest.TestCase):
             file.write('{"count": 3' + " " * (1 << 20) + "}")
             file.flush()
             self.assertEqual(self.curl(served, "/", "--data-binary", f"@{file.name}"), ("413", "", ""))
-            self.assertEqual(served.ended(), self.ENDED)
+            self.assert_ended(served, 0, how="refused 413")
 
     def test_a_session_says_each_text_again(self):
         import websockets
@@ -541,14 +549,14 @@ class Guide(unittest.TestCase):
         with Served("asgi_guide_example", 1, "session") as served:
             url = served.url.replace("http", "ws")
             self.assertEqual(asyncio.run(asyncio.wait_for(talk(url), SECONDS)), (1000, "bye"))
-            self.assertEqual(served.ended(), self.ENDED)
+            self.assert_ended(served, 1)
 
     @needs("curl")
     def test_the_state_of_the_start_is_in_each_request(self):
         with Served("asgi_guide_example", 2, "greets") as served:
             for _ in range(2):
                 self.assertEqual(self.curl(served), ("200", "text/plain; charset=utf-8", "good morning\n"))
-            self.assertEqual(served.ended(), self.ENDED)
+            self.assert_ended(served, 1, 1)
 
     def test_a_port_that_is_taken_ends_it(self):
         with socket.create_server(("127.0.0.1", 0)) as taken:
