@@ -26,7 +26,7 @@ pub const NO_EXTENSIONS: Extensions = Extensions {
     http_response_trailers: false,
 };
 
-pub fn scope_of(
+fn scope_of(
     alloc: Global,
     method: &str,
     path: &str,

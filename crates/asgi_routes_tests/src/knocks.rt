@@ -10,7 +10,7 @@ use std::alloc::{AllocError, Global};
 #[derive(Clone, Copy, Debug)]
 pub struct Knock(pub &'static str, pub &'static str, pub &'static str);
 
-pub fn scope_of(alloc: Global, path: &str, root_path: &str) -> Result<WsScope, AllocError> {
+fn scope_of(alloc: Global, path: &str, root_path: &str) -> Result<WsScope, AllocError> {
     let scheme = chars(alloc, "ws")?;
     let raw_path = octets(alloc, path)?;
     let query_string = octets(alloc, "")?;

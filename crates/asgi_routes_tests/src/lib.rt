@@ -17,6 +17,4 @@ mod refusals;
 #[cfg(test)]
 mod replies;
 #[cfg(test)]
-mod served;
-#[cfg(test)]
 mod sessions;
