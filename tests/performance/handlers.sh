@@ -55,8 +55,8 @@ impl Handler for Speaks {
 fn main(rt: HostRuntime) -> ExitCode {
     match asked(&rt) {
         (0, _) => once(rt),
-        (port, true) => Server::on(port).workers(4).log_connections(&rt).in_worker(&rt).serve(&rt, &Handled::new(Speaks)),
-        (port, false) => Server::on(port).workers(4).log_connections(&rt).serve(&rt, &Handled::new(Speaks)),
+        (port, true) => Server::on(port).workers(4).in_worker(&rt).serve(&rt, &Handled::new(Speaks)),
+        (port, false) => Server::on(port).workers(4).serve(&rt, &Handled::new(Speaks)),
     }
 }
 
