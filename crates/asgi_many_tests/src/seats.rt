@@ -17,6 +17,14 @@ use std::alloc::AllocGlobal;
 use std::io;
 use std::test::Fail;
 
+/// Whether its client has this port.
+fn is_from<L>(back: &Newcomer<L>, port: u16) -> bool {
+    match &back.client {
+        Some(client) => client.port == port,
+        None => false,
+    }
+}
+
 /// How many of so many newcomers get a seat, and whether the others come back with their own ports, the first one in the
 /// seat that the table named.
 fn seated<H: Host, X: Drop, A: Application, U: Runner<A::Task, Exchange = X>>(
@@ -35,12 +43,7 @@ fn seated<H: Host, X: Drop, A: Application, U: Runner<A::Task, Exchange = X>>(
         let is_full = table.is_full();
         match table.seat::<A, U>(&state, newcomer(rt, &(GET, 1, false), port)?) {
             Ok(at) => holds = holds && !is_full && at == next && at < table.bound(),
-            Err(back) => {
-                let Some(client) = back.client else {
-                    return Ok((table.len(), false));
-                };
-                holds = holds && is_full && client.port == port;
-            }
+            Err(back) => holds = holds && is_full && is_from(&back, port),
         }
     }
     Ok((table.len(), holds))
