@@ -1,3 +1,4 @@
 pub mod AcceptLemmas
 pub mod PromiseLemmas
+pub mod ReadingLemmas
 pub mod StationLemmas

@@ -2,6 +2,7 @@
 #![tactic(auto)]
 
 mod accepting;
+mod ahead;
 mod engine;
 mod inline_station;
 mod listener;
@@ -17,6 +18,7 @@ mod station;
 mod system;
 mod waiting;
 
+pub use ahead::Ahead;
 pub use asgi_crew::{End, Shared, Teller, Workers};
 pub use asgi_lifespan::{Lifespan, Start, Stop};
 pub use engine::{Engine, Threadless};

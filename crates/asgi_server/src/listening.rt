@@ -115,7 +115,7 @@ impl<'a, R: Net + Clock> Listening<'a, R> {
         let (stream, from) = accept_until(self.rt, &self.listener, self.flag, &mut self.calls)?;
         let own = self.calls.name(&stream);
         let (client, server) = sides_of(self.alloc, from, own);
-        let line = Wired::new(self.alloc, Socket::new(self.rt, stream, false));
+        let line = Wired::new(self.alloc, Socket::new(self.rt, self.alloc, stream, false));
         Ok((line, client, server))
     }
 }

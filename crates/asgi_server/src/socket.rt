@@ -1,8 +1,11 @@
 //! A socket that is closed only once its peer had time to read what was written.
 ghost use Rattle.std.specs.Prelude.{◌≡◌};
 ghost use Rattle.std.specs.Io.{WritesAtMost};
+ghost use Rattle.asgi_server.specs.Reading.{left};
 
+use crate::ahead::Ahead;
 use asgi_io::is_passing;
+use std::alloc::Global;
 use std::io::{self, ErrorKind, Read, Write};
 use std::net::{OpenStream, Shutdown};
 use std::time::{Clock, Duration, Instant};
@@ -25,6 +28,8 @@ const LONGEST_END: u64 = 1_000;
 pub struct Socket<'a, H: Clock, S: Read + OpenStream> {
     clock: &'a H,
     stream: S,
+    /// What was read of the stream and not given yet.
+    ahead: Ahead,
     /// Reads wait for bytes, for a short while.
     waits: bool,
     is_ready: bool,
@@ -32,14 +37,16 @@ pub struct Socket<'a, H: Clock, S: Read + OpenStream> {
 
 impl<'a, H: Clock, S: Read + OpenStream> Socket<'a, H, S> {
     /// A socket over this stream. From here on its writes wait for a short while only, and its reads too, or not
-    /// at all.
-    pub fn new(clock: &'a H, stream: S, waits: bool) -> Self
-        ensures { result.stream ≡ stream }
+    /// at all. Allocates nothing, until a read has filled its room.
+    pub fn new(clock: &'a H, alloc: Global, stream: S, waits: bool) -> Self
+        ensures stream { result.stream ≡ stream }
+        ensures nothing { result.ahead.start ≡ result.ahead.end }
     {
         let is_ready = ready(&stream, waits).is_ok();
         Socket {
             clock,
             stream,
+            ahead: Ahead::new(alloc),
             waits,
             is_ready,
         }
@@ -60,6 +67,7 @@ impl<'a, H: Clock, S: Read + OpenStream + Drop> Drop for Socket<'a, H, S> {
         let Socket {
             clock,
             mut stream,
+            ahead: _ahead,
             waits: _,
             is_ready,
         } = self;
@@ -132,11 +140,13 @@ impl<H: Clock, S: Read + Write + OpenStream> Socket<'_, H, S> {
 }
 
 impl<H: Clock, S: Read + OpenStream> Read for Socket<'_, H, S> {
+    ghost remaining = { λ s. left s.ahead.buf.items s.ahead.start s.ahead.end (S.remaining s.stream) };
+
     fn read(&mut self, buf: &mut [u8]) -> io::Result<usize> {
         if !self.is_ready {
             return Err(unready());
         }
-        self.stream.read(buf)
+        self.ahead.read(&mut self.stream, buf)
     }
 }
 

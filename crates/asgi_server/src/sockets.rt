@@ -163,7 +163,10 @@ impl<'a, R: Net + Clock> Sockets<'a, R> {
         let (stream, from) = accept_on(self.rt, listener, &mut self.calls)?;
         let own = self.calls.name(&stream);
         let (client, server) = sides_of(self.alloc, from, own);
-        let line = Wired::new(self.alloc, Socket::new(self.rt, stream, self.waits));
+        let line = Wired::new(
+            self.alloc,
+            Socket::new(self.rt, self.alloc, stream, self.waits),
+        );
         Ok((line, client, server))
     }
 }

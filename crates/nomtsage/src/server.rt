@@ -176,7 +176,7 @@ impl<'a, K: Drop, E: Drop, G: Drop> Server<'a, K, E, G> {
     }
 
     /// Writes a line of the log as each connection ends.
-    pub fn log_connections<R: Log>(self, rt: &'a R) -> Server<'a, K, LogLines<'a, R>, G>
+    pub fn log_connections<'r, R: Log>(self, rt: &'r R) -> Server<'a, K, LogLines<'r, R>, G>
         ensures others { let was = self.entry in (result.address ≡ was.address) × (result.workers ≡ was.workers) × (result.limits ≡ was.limits)
             × (result.count ≡ was.count) × (result.stop ≡ was.stop) × (result.on_report ≡ was.on_report) × (result.engines ≡ was.engines) }
     {
@@ -225,14 +225,16 @@ impl<'a, K: Teller<Report> + Drop + Send, E: OnEnd + Drop + Send + Sync> Server<
     /// The error names what could not be had or did not end well. If the address can't be listened on the application is
     /// not started; if the application does not start, no connection is accepted.
     pub fn run<
+        'r,
         S: OpenStream + Read + Write + Drop + Send,
         H: Net<Stream = S> + Clock + Log + Host + Sync,
         T: AppTask + Send + 'static,
         A: Application<Task = T> + Send + Sync,
-    >(self, rt: &'a H, app: &A) -> Result<(), ServeError>
+    >(self, rt: &'r H, app: &A) -> Result<(), ServeError>
     where
+        'a: 'r,
         H::Listener: Send,
-        ensures { Runs ⟦<Wired<Socket<'a, H, S>> as Line>⟧.state K.tells (A.answers app.now)
+        ensures { Runs ⟦<Wired<Socket<'r, H, S>> as Line>⟧.state K.tells (A.answers app.now)
             (settings self.entry.address self.entry.workers self.entry.limits self.entry.on_report) result }
     {
         let workers = match workers_of(rt, self.workers) {
@@ -244,15 +246,17 @@ impl<'a, K: Teller<Report> + Drop + Send, E: OnEnd + Drop + Send + Sync> Server<
 
     /// The same by this many workers.
     fn run_by<
+        'r,
         S: OpenStream + Read + Write + Drop + Send,
         H: Net<Stream = S> + Clock + Log + Host + Sync,
         T: AppTask + Send + 'static,
         A: Application<Task = T> + Send + Sync,
-    >(self, rt: &'a H, app: &A, workers: Workers) -> Result<(), ServeError>
+    >(self, rt: &'r H, app: &A, workers: Workers) -> Result<(), ServeError>
     where
+        'a: 'r,
         H::Listener: Send,
         requires { IsNumberBy self.workers workers.count }
-        ensures { Runs ⟦<Wired<Socket<'a, H, S>> as Line>⟧.state K.tells (A.answers app.now)
+        ensures { Runs ⟦<Wired<Socket<'r, H, S>> as Line>⟧.state K.tells (A.answers app.now)
             (settings self.entry.address self.entry.workers self.entry.limits self.entry.on_report) result }
     {
         let Server {
@@ -279,14 +283,16 @@ impl<'a, K: Teller<Report> + Drop + Send, E: OnEnd + Drop + Send + Sync> Server<
 
     /// The same for a `main`: the error is written to the log, and the exit status is by it (`ServeError::status`).
     pub fn serve<
+        'r,
         S: OpenStream + Read + Write + Drop + Send,
         H: Net<Stream = S> + Clock + Log + Host + Sync,
         T: AppTask + Send + 'static,
         A: Application<Task = T> + Send + Sync,
-    >(self, rt: &'a H, app: &A) -> ExitCode
+    >(self, rt: &'r H, app: &A) -> ExitCode
     where
+        'a: 'r,
         H::Listener: Send,
-        ensures { RunsTo ⟦<Wired<Socket<'a, H, S>> as Line>⟧.state K.tells (A.answers app.now)
+        ensures { RunsTo ⟦<Wired<Socket<'r, H, S>> as Line>⟧.state K.tells (A.answers app.now)
             (settings self.entry.address self.entry.workers self.entry.limits self.entry.on_report) (exit_status result) }
     {
         match self.run(rt, app) {
@@ -305,15 +311,17 @@ impl<'a, K: Teller<Report> + Drop + Send, E: OnEnd + Drop + Send + Sync, G: Drop
     /// Listens, starts the application, serves, and stops it, as a server does whose tasks have a thread. An engine is made for
     /// each worker once the address is listened on.
     pub fn run<
+        'r,
         S: OpenStream + Read + Write + Drop + Send,
         H: Net<Stream = S> + Clock + Log + Host + Sync,
         T: AppTask,
         A: Application<Task = T> + Send + Sync,
-    >(self, rt: &'a H, app: &A) -> Result<(), ServeError>
+    >(self, rt: &'r H, app: &A) -> Result<(), ServeError>
     where
+        'a: 'r,
         H::Listener: Send,
         G: Threadless<A, H>,
-        ensures { Runs ⟦<Wired<Socket<'a, H, S>> as Line>⟧.state K.tells (A.answers app.now)
+        ensures { Runs ⟦<Wired<Socket<'r, H, S>> as Line>⟧.state K.tells (A.answers app.now)
             (settings self.entry.address self.entry.workers self.entry.limits self.entry.on_report) result }
     {
         let workers = match workers_of(rt, self.workers) {
@@ -325,16 +333,18 @@ impl<'a, K: Teller<Report> + Drop + Send, E: OnEnd + Drop + Send + Sync, G: Drop
 
     /// The same by this many workers.
     fn run_by<
+        'r,
         S: OpenStream + Read + Write + Drop + Send,
         H: Net<Stream = S> + Clock + Log + Host + Sync,
         T: AppTask,
         A: Application<Task = T> + Send + Sync,
-    >(self, rt: &'a H, app: &A, workers: Workers) -> Result<(), ServeError>
+    >(self, rt: &'r H, app: &A, workers: Workers) -> Result<(), ServeError>
     where
+        'a: 'r,
         H::Listener: Send,
         G: Threadless<A, H>,
         requires { IsNumberBy self.workers workers.count }
-        ensures { Runs ⟦<Wired<Socket<'a, H, S>> as Line>⟧.state K.tells (A.answers app.now)
+        ensures { Runs ⟦<Wired<Socket<'r, H, S>> as Line>⟧.state K.tells (A.answers app.now)
             (settings self.entry.address self.entry.workers self.entry.limits self.entry.on_report) result }
     {
         let Server {
@@ -363,15 +373,17 @@ impl<'a, K: Teller<Report> + Drop + Send, E: OnEnd + Drop + Send + Sync, G: Drop
 
     /// The same for a `main`: the error is written to the log, and the exit status is by it (`ServeError::status`).
     pub fn serve<
+        'r,
         S: OpenStream + Read + Write + Drop + Send,
         H: Net<Stream = S> + Clock + Log + Host + Sync,
         T: AppTask,
         A: Application<Task = T> + Send + Sync,
-    >(self, rt: &'a H, app: &A) -> ExitCode
+    >(self, rt: &'r H, app: &A) -> ExitCode
     where
+        'a: 'r,
         H::Listener: Send,
         G: Threadless<A, H>,
-        ensures { RunsTo ⟦<Wired<Socket<'a, H, S>> as Line>⟧.state K.tells (A.answers app.now)
+        ensures { RunsTo ⟦<Wired<Socket<'r, H, S>> as Line>⟧.state K.tells (A.answers app.now)
             (settings self.entry.address self.entry.workers self.entry.limits self.entry.on_report) (exit_status result) }
     {
         match self.run(rt, app) {

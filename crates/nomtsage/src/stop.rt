@@ -29,7 +29,7 @@ impl Stop {
 }
 
 /// The flag that a listener looks at.
-pub fn flag_of<'a>(stop: Option<&'a Stop>) -> Option<&'a AtomicBool> {
+pub fn flag_of<'a: 'r, 'r>(stop: Option<&'a Stop>) -> Option<&'r AtomicBool> {
     match stop {
         Some(stop) => Some(&stop.pulled),
         None => None,
