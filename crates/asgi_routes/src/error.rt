@@ -19,8 +19,8 @@ pub enum RouteError {
     /// neither is the narrower. So do two that differ in the names of their parameters alone.
     #[error("the pattern conflicts with another one")]
     Conflict,
-    /// The pattern has an endpoint for the method.
-    #[error("the pattern has an endpoint for the method")]
+    /// The pattern has an endpoint for the method, or, in a table of rooms, a room.
+    #[error("the pattern has an endpoint for the method, or a room")]
     Taken,
     /// Memory was refused.
     #[error(transparent)]

@@ -1,5 +1,6 @@
 //! The patterns of a table of routes, each with its number.
-ghost use Rattle.std.specs.Prelude.{◌≡◌, ◌++◌, ◌∷◌, [], Some, None, bytes_eq, length, IfOk, IfErr, OnOk, OnErr};
+ghost use Rattle.std.specs.Prelude.{◌≡◌, ◌≢◌, ◌++◌, ◌∷◌, [], Some, None, bytes_eq, length, IfOk, IfErr, OnOk, OnErr};
+ghost use Rattle.std.specs.Result.{IsErrOf};
 ghost use Rattle.matchit.specs.Route.{parse_route};
 ghost use Rattle.asgi_routes.specs.Patterns.{IsFit, IsNew, IsNoMemory, IsWhy, IsWhyIn, matched, number_of, place_in, rows_of, with_pattern, with_read};
 
@@ -40,6 +41,22 @@ impl Table {
     {
         match place_of(self.patterns.as_slice(), pattern) {
             Some(number) => Ok((self, number)),
+            None => self.with_new(pattern),
+        }
+    }
+
+    /// The table with this pattern, which must be another one than those that it has, and the number
+    /// of the pattern. `Taken` if it has this one.
+    pub fn with_another(self, pattern: &str) -> Result<(Table, usize), RouteError>
+        ensures patterns { IfOk result (λ made. made.0.patterns.items ≡ self.patterns.items ++ pattern.now ∷ []) }
+        ensures number { IfOk result (λ made. made.1 ≡ length self.patterns.items) }
+        ensures fit { OnOk result (IsNew (rows_of self.patterns.items) pattern.now) }
+        ensures free { OnOk result (place_in self.patterns.items pattern.now ≡ None) }
+        ensures taken { place_in self.patterns.items pattern.now ≢ None → IsErrOf result RouteError.Taken }
+        ensures err { IfErr result (λ why. IsWhy (place_in self.patterns.items pattern.now ≢ None) self.patterns.items pattern.now why) }
+    {
+        match place_of(self.patterns.as_slice(), pattern) {
+            Some(_) => Err(RouteError::Taken),
             None => self.with_new(pattern),
         }
     }

@@ -13,15 +13,15 @@ pub struct Row(
     pub &'static str,
 );
 
-fn chars(alloc: Global, text: &str) -> Result<Chars, AllocError> {
+pub fn chars(alloc: Global, text: &str) -> Result<Chars, AllocError> {
     Ok(Chars::new(String::from_str(alloc, text)?))
 }
 
-fn octets(alloc: Global, text: &str) -> Result<Octets, AllocError> {
+pub fn octets(alloc: Global, text: &str) -> Result<Octets, AllocError> {
     Ok(Octets::new(Vec::from_slice(alloc, text.as_bytes())?))
 }
 
-const NO_EXTENSIONS: Extensions = Extensions {
+pub const NO_EXTENSIONS: Extensions = Extensions {
     websocket_http_response: false,
     http_response_trailers: false,
 };
@@ -74,7 +74,7 @@ fn is_told(alloc: Global, reply: &Reply, expected: &str) -> Result<bool, AllocEr
     Ok(text.as_slice() == expected.as_bytes())
 }
 
-fn add(text: &mut Vec<u8>, parts: &[&[u8]]) -> Result<(), AllocError> {
+pub fn add(text: &mut Vec<u8>, parts: &[&[u8]]) -> Result<(), AllocError> {
     for part in parts {
         text.extend_from_slice(part)?;
     }

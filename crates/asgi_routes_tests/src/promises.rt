@@ -1,11 +1,16 @@
-//! An endpoint that promises which reply it gives, of the parameters of its route.
-ghost use Rattle.std.specs.Prelude.{◌≡◌, IfSome, codes};
+//! An endpoint that promises which reply it gives, of the parameters of its route, and a room that
+//! promises which session it opens.
+ghost use Rattle.std.specs.Prelude.{◌≡◌, [], IfSome, None, codes};
 ghost use Rattle.asgi_handlers.specs.Params.{param_in};
+ghost use Rattle.asgi_talks.specs.declared.opened.Opened.TheVariants.{Accepted};
 
 use crate::asked::{Row, first_unlike};
+use crate::knocks::{Knock, first_other};
 use asgi_apps::AppFault;
 use asgi_handlers::{Reply, Request};
-use asgi_routes::{Endpoint, RouteError, Routes};
+use asgi_routes::{Endpoint, Room, Rooms, RouteError, Routes, param_of};
+use asgi_talks::{Answer, Opened, Talk, Tells};
+use asgi_types::{Chars, Payload, WsScope};
 use std::alloc::Global;
 use std::test::Fail;
 
@@ -47,5 +52,65 @@ fn unlike(alloc: Global) -> Result<Option<usize>, RouteError> {
 #[test]
 fn a_promise_is_of_the_parameters(rt: HostRuntime) -> Result<(), Fail> {
     assert_eq!(rt; unlike(rt.alloc())?, None);
+    Ok(())
+}
+
+/// Opens sessions that have what the parameter `name` took, and promises so.
+#[derive(Clone, Copy, Debug)]
+struct Keeps;
+
+/// A session with a name, which it says unasked.
+#[derive(Debug, Drop)]
+struct Kept {
+    name: Chars,
+}
+
+impl Room for Keeps {
+    type Session = Kept;
+
+    // The session is accepted with the part of the path that the parameter took.
+    ghost opens = { λ _ _ params opened. IfSome (param_in params (codes "name")) (λ part. opened ≡ Accepted None [] (record { name = part })) };
+
+    fn open(
+        &self,
+        alloc: Global,
+        _scope: &WsScope,
+        params: &[(&str, &str)],
+    ) -> Result<Opened<Kept>, AppFault> {
+        match param_of(params, "name") {
+            Some(part) => {
+                let name = Chars::new(String::from_str(alloc, part)?);
+                Ok(Opened::accept(alloc, Kept { name }))
+            }
+            None => Ok(Opened::Refused),
+        }
+    }
+}
+
+impl Talk for Kept {
+    fn hear(&mut self, alloc: Global, message: Payload) -> Result<Answer, AppFault> {
+        Ok(Answer::message(alloc, message)?)
+    }
+}
+
+impl Tells for Kept {
+    fn tell(&mut self, alloc: Global) -> Result<Answer, AppFault> {
+        Ok(Answer::text(alloc, self.name.as_str())?)
+    }
+}
+
+const KEPT: &[Knock] = &[
+    Knock("/ann", "", "accept|hi|ann"),
+    Knock("/", "", "refused"),
+];
+
+fn other(alloc: Global) -> Result<Option<usize>, RouteError> {
+    let rooms = Rooms::new(alloc).room("/{name}", Keeps)?;
+    Ok(first_other(alloc, &rooms, KEPT))
+}
+
+#[test]
+fn a_room_promises_of_the_parameters(rt: HostRuntime) -> Result<(), Fail> {
+    assert_eq!(rt; other(rt.alloc())?, None);
     Ok(())
 }

@@ -17,7 +17,10 @@ pub use asgi_apps::{
 pub use asgi_conn::{Host, Outcome, Report};
 pub use asgi_handlers::{Handled, HandledTask, Handler, Held, Reply, Request, Shared, ask};
 pub use asgi_pipes::{AppEnd, EndKind, Sent};
-pub use asgi_routes::{Chain, Empty, Endpoint, Endpoints, Method, RouteError, Routes};
+pub use asgi_routes::{
+    Chain, Empty, Endpoint, Endpoints, Method, NoRooms, NoSession, Room, RoomChain, RoomList,
+    RoomSession, Rooms, RouteError, Routes, param_of,
+};
 pub use asgi_server::{
     Accepts, Engine, InlineStation, Listener, Nobody, OnEnd, Teller, Threadless, Workers,
 };
