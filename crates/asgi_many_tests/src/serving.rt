@@ -131,7 +131,17 @@ pub fn run<H: Host, A: Application>(
     let comers = comers_of(rt, inputs)?;
     let solo = Solo::new(rt, Doorbell::spinning())?;
     let mut runner = Inline::new(solo.begin());
-    let ran = run_by(rt.alloc(), app, limits, comers, places, draws, &mut runner);
+    let state = State::new(rt.alloc());
+    let ran = run_by(
+        rt.alloc(),
+        app,
+        limits,
+        &state,
+        comers,
+        places,
+        draws,
+        &mut runner,
+    );
     runner.end();
     ran
 }
@@ -140,17 +150,17 @@ fn run_by<X: Drop, A: Application, L: AnyLine + Drop, U: Runner<A::Task, Exchang
     alloc: Global,
     app: &A,
     limits: &Limits,
+    state: &State,
     comers: Vec<Newcomer<L>>,
     places: usize,
     draws: Draws,
     runner: &mut U,
 ) -> io::Result<Ran<L>> {
-    let state = State::new(alloc);
     let mut calls = Calls::of(app);
     let mut draws = draws;
     let mut comers = comers;
     let mut ran = Ran::new(alloc, comers.len())?;
-    let mut table = table_of::<X, A, L, U>(alloc, limits, places, &state, &calls)?;
+    let mut table = table_of::<X, A, L, U>(alloc, limits, places, state, &calls)?;
     let mut waiting = None;
     for _step in 0..STEPS {
         if waiting.is_none() {
@@ -160,7 +170,7 @@ fn run_by<X: Drop, A: Application, L: AnyLine + Drop, U: Runner<A::Task, Exchang
             return Ok(ran);
         }
         let drawn = draws.draw();
-        let turned = step(&mut table, &state, &mut calls, runner, &mut waiting, drawn);
+        let turned = step(&mut table, state, &mut calls, runner, &mut waiting, drawn);
         ran.take(turned);
     }
     Err(io::Error::from(ErrorKind::TimedOut))
