@@ -1,0 +1,5 @@
+pub mod ListLemmas
+pub mod SeatLemmas
+pub mod StandingLemmas
+pub mod StepLemmas
+pub mod TableLemmas

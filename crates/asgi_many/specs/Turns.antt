@@ -1,0 +1,29 @@
+-- What a turn of a named seat did.
+use Rattle.std.specs.Prelude.{◌≡◌, ◌≢◌, ℕ, ⊤, List, Option, Some, None, IsSomeAnd, slice_set}
+use Rattle.asgi_conn.specs.Standing.{TakesOne}
+use Rattle.asgi_many.specs.declared.seat.Ended.{Ended}
+use Rattle.asgi_many.specs.declared.seat.Seat.{Seat}
+use Rattle.asgi_many.specs.declared.table.Turned.{Turned}
+use Rattle.asgi_many.specs.declared.table.Turned.TheVariants.{NoOne, Moved, Idle, Over}
+
+-- What has ended after the turn: an end stands at the number of its connection.
+abbrev pub ended_after : {L : Type 0} → Turned L → List (Option (Ended L)) → List (Option (Ended L))
+ended_after NoOne ended = ended
+ended_after Moved ended = ended
+ended_after Idle ended = ended
+ended_after (Over end) ended = slice_set ended end.number (Some end)
+
+-- this holds of the end, if there is one
+abbrev pub IfOver : {L : Type 0} → Turned L → (Ended L → Type 0) → Type 0
+IfOver NoOne P = ⊤
+IfOver Moved P = ⊤
+IfOver Idle P = ⊤
+IfOver (Over end) P = P end
+
+-- From what the seat had to what it has: nobody sits there; or the connection took one turn, and counted it; or it has ended, and the
+-- seat is free.
+abbrev pub TurnsSeat : {X L : Type 0} → Turned L → Option (Seat X L) → Option (Seat X L) → Type 0
+TurnsSeat NoOne old new = (old ≡ None) × (new ≡ None)
+TurnsSeat Moved old new = IsSomeAnd old (λ was. IsSomeAnd new (λ is. TakesOne was.connection is.connection))
+TurnsSeat Idle old new = IsSomeAnd old (λ was. IsSomeAnd new (λ is. TakesOne was.connection is.connection))
+TurnsSeat (Over end) old new = IsSomeAnd old (λ was. was.number ≡ end.number) × (new ≡ None)

@@ -1,0 +1,155 @@
+//! Who gets a seat, who comes back, and whose turns and pauses are counted.
+ghost use Rattle.std.specs.Prelude.{◌≡◌, List, Option};
+ghost use Rattle.asgi_many.specs.declared.seat.Ended.{Ended};
+ghost use Rattle.asgi_many.specs.declared.seat.Newcomer.{Newcomer};
+ghost use Rattle.asgi_many.specs.Standing.{Holds};
+
+use crate::held::{seat_of, table_of, turn_of};
+use crate::lines::newcomer;
+use asgi_apps::{Application, Hello};
+use asgi_conn::{Calls, Host, Inline, Line as AnyLine, Outcome, Runner};
+use asgi_fakes::texts::GET;
+use asgi_fakes::{Memory, Never, line_of};
+use asgi_many::{Ended, Newcomer, Table, Turned};
+use asgi_types::{Limits, State};
+use futures::task::{Doorbell, Solo};
+use std::alloc::AllocGlobal;
+use std::io;
+use std::test::Fail;
+
+/// Whether its client has this port.
+fn is_from<L>(back: &Newcomer<L>, port: u16) -> bool {
+    match &back.client {
+        Some(client) => client.port == port,
+        None => false,
+    }
+}
+
+/// How many of so many newcomers get a seat, and whether the others come back with their own ports, the first one in the
+/// seat that the table named.
+fn seated<H: Host, X: Drop, A: Application, U: Runner<A::Task, Exchange = X>>(
+    rt: &H,
+    _runner: &U,
+    app: &A,
+    places: usize,
+    many: u16,
+) -> io::Result<(usize, bool)> {
+    let _app = app;
+    let state = State::new(rt.alloc());
+    let mut table = Table::new::<A, U>(rt.alloc(), &Limits::usual(), places)?;
+    let mut holds = table.is_empty() && table.places() == places;
+    for port in 0..many {
+        let next = table.next_seat();
+        let is_full = table.is_full();
+        match table.seat::<A, U>(&state, newcomer(rt, &(GET, 1, false), port)?) {
+            Ok(at) => holds = holds && !is_full && at == next && at < table.bound(),
+            Err(back) => holds = holds && is_full && is_from(&back, port),
+        }
+    }
+    Ok((table.len(), holds))
+}
+
+#[test]
+fn one_that_finds_no_seat_comes_back(rt: HostRuntime) -> Result<(), Fail> {
+    let rows: &[(usize, u16, usize)] = &[
+        (0, 2, 0),
+        (1, 0, 0),
+        (1, 1, 1),
+        (1, 3, 1),
+        (3, 2, 2),
+        (3, 9, 3),
+    ];
+    for (places, many, wanted) in rows {
+        let solo = Solo::new(&rt, Doorbell::spinning())?;
+        let runner = Inline::new(solo.begin());
+        let got = seated(&rt, &runner, &Hello, *places, *many);
+        runner.end();
+        assert_eq!(rt; got?, (*wanted, true), "{places} places, {many} come");
+    }
+    Ok(())
+}
+
+/// A line on which nothing comes.
+type Mute = Memory<Never>;
+
+/// Takes so many turns of a seat, or until its connection has ended.
+fn turns<X, A: Application, L: AnyLine, U: Runner<A::Task, Exchange = X>>(
+    table: &mut Table<X, L>,
+    state: &State,
+    calls: &mut Calls<'_, A>,
+    runner: &mut U,
+    at: usize,
+    many: u64,
+) -> Option<Ended<L>>
+    requires { (came : List (Newcomer L)) × (ended : List (Option (Ended L)))
+        × Holds A.Task.answers U.Pipes.Conn.ConnEnd U.Pipes.App.AppEnd U.conn U.began (A.answers calls.old.app.now) L.state state.now came table.old ended }
+    ensures { (came : List (Newcomer L)) × (ended : List (Option (Ended L)))
+        × Holds A.Task.answers U.Pipes.Conn.ConnEnd U.Pipes.App.AppEnd U.conn U.began (A.answers calls.new.app.now) L.state state.now came table.new ended }
+{
+    for _turn in 0..many {
+        match turn_of(table, state, calls, runner, at) {
+            Turned::Over(end) => return Some(end),
+            Turned::NoOne => {}
+            Turned::Moved => {}
+            Turned::Idle => {}
+        }
+    }
+    None
+}
+
+/// Whether a connection that ended has this number, was idle, and was paused for as often as it may be.
+fn is_silent<L>(end: &Option<Ended<L>>, number: u64, pauses: u64) -> bool {
+    let Some(end) = end else {
+        return false;
+    };
+    let same = end.number == number && end.pauses == pauses;
+    same && end.report.outcome == Outcome::Idle && end.report.turns == pauses
+}
+
+/// Two silent connections, within five idle turns: the first is given up after five of its own, whatever the other took.
+fn are_given_up<H: Host, X: Drop, A: Application, U: Runner<A::Task, Exchange = X>>(
+    rt: &H,
+    app: &A,
+    runner: &mut U,
+) -> io::Result<bool> {
+    let state = State::new(rt.alloc());
+    let mut calls = Calls::of(app);
+    let mut limits = Limits::usual();
+    limits.idle_turns = 5;
+    let mut table = table_of::<X, A, Mute, U>(rt.alloc(), &limits, 2, &state, &calls)?;
+    let one = silent(rt)?;
+    let other = silent(rt)?;
+    let Ok(first) = seat_of::<X, A, Mute, U>(&mut table, &state, &calls, one) else {
+        return Ok(false);
+    };
+    let Ok(second) = seat_of::<X, A, Mute, U>(&mut table, &state, &calls, other) else {
+        return Ok(false);
+    };
+    let early = turns(&mut table, &state, &mut calls, runner, first, 5);
+    let between = turns(&mut table, &state, &mut calls, runner, second, 3);
+    let at_limit = turns(&mut table, &state, &mut calls, runner, first, 1);
+    let after = turns(&mut table, &state, &mut calls, runner, first, 9);
+    let left = table.len();
+    let last = turns(&mut table, &state, &mut calls, runner, second, 3);
+    let none = early.is_none() && between.is_none() && after.is_none() && left == 1;
+    Ok(none && is_silent(&at_limit, 0, 5) && is_silent(&last, 1, 5) && table.is_empty())
+}
+
+/// One that says nothing.
+fn silent<H: AllocGlobal>(rt: &H) -> io::Result<Newcomer<Mute>> {
+    Ok(Newcomer {
+        line: line_of(rt, Never)?,
+        client: None,
+        server: None,
+    })
+}
+
+#[test]
+fn silent_seats_are_given_up_by_their_own_turns(rt: HostRuntime) -> Result<(), Fail> {
+    let solo = Solo::new(&rt, Doorbell::spinning())?;
+    let mut runner = Inline::new(solo.begin());
+    let given_up = are_given_up(&rt, &Hello, &mut runner);
+    runner.end();
+    assert!(rt; given_up?);
+    Ok(())
+}
