@@ -1,5 +1,7 @@
+pub mod EndLemmas
 pub mod ListLemmas
 pub mod SeatLemmas
+pub mod ServingLemmas
 pub mod StandingLemmas
 pub mod StepLemmas
 pub mod TableLemmas

@@ -1,3 +1,4 @@
 pub mod Seats
+pub mod Serving
 pub mod Standing
 pub mod Turns

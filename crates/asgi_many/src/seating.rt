@@ -1,5 +1,5 @@
 //! Who gets a seat, and the turns of who sits there.
-ghost use Rattle.std.specs.Prelude.{◌≡◌, ◌≢◌, ◌+◌, ◌-◌, ◌^◌, ◌<◌, ◌≤◌, ◌⊎◌, ◌↔◌, ◌++◌, ◌∷◌, [], ℕ, List, Option, Some, None, IsTrue, IsFalse, IfOk, IfErr, IsErr, IsSomeAnd, slice_get};
+ghost use Rattle.std.specs.Prelude.{◌≡◌, ◌≢◌, ◌+◌, ◌-◌, ◌^◌, ◌<◌, ◌≤◌, ◌⊎◌, ◌↔◌, ◌++◌, ◌∷◌, [], ℕ, List, Option, Some, None, IsTrue, IsFalse, IfOk, IfErr, IsErr, IsSomeAnd, slice_get, option_map};
 ghost use Rattle.asgi_types.specs.declared.state.StateValue.{StateValue};
 ghost use Rattle.slab.specs.Slab.{get, slab_len};
 ghost use Rattle.asgi_conn.specs.Standing.{IsReportOf};
@@ -65,6 +65,21 @@ impl<X, L: Line> Table<X, L> {
         ensures free { IsFalse result → slab_len self.now.seats < self.now.places }
     {
         self.seats.len() >= self.places
+    }
+
+    /// Whether a newcomer gets a seat: one is free, and fewer than 2^64 - 1 have come.
+    pub fn has_seat(&self) -> bool
+        ensures { IsTrue result → ¬ (IsFull self.now) × ¬ (self.now.came ≡ 2 ^ 64 - 1) }
+    {
+        !self.is_full() && self.came < u64::MAX
+    }
+
+    /// The line of the connection in that seat, if there is one.
+    pub fn line(&self, at: usize) -> Option<&L>
+        ensures { option_map (λ line. line.now) result ≡ option_map (λ seat. seat.line) (get self.now.seats at) }
+    {
+        let seat = self.seats.get(at)?;
+        Some(&seat.line)
     }
 
     /// The seat that the next newcomer gets, if there is one for it. Each seat has a number below `bound`.

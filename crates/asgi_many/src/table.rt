@@ -1,5 +1,5 @@
 //! A table of seats, and what a turn of one does.
-ghost use Rattle.std.specs.Prelude.{◌≤◌};
+ghost use Rattle.std.specs.Prelude.{◌<◌, ◌≤◌, ◌^◌};
 
 use crate::seat::{Ended, Seat};
 use asgi_types::Limits;
@@ -30,4 +30,5 @@ pub struct Table<X, L> {
     /// How many have come.
     pub(crate) came: u64,
     ghost room: { places ≤ seats.capacity },
+    ghost few: { came < 2 ^ 64 },
 }

@@ -18,7 +18,7 @@ const CHUNKS: &[u8] =
     b"POST / HTTP/1.1\r\nHost: a\r\nTransfer-Encoding: chunked\r\n\r\n2\r\nab\r\n1\r\nc\r\n0\r\n\r\n";
 
 /// Whole requests, one after another, refused ones and broken ones, at once and byte by byte.
-const INPUTS: &[Input] = &[
+pub const INPUTS: &[Input] = &[
     (GET, 4_096, false),
     (TWO_REQUESTS, 1, true),
     (b"", 1, false),

@@ -8,6 +8,8 @@ mod held;
 #[cfg(test)]
 mod lines;
 #[cfg(test)]
+mod reactors;
+#[cfg(test)]
 mod seats;
 #[cfg(test)]
 mod serving;

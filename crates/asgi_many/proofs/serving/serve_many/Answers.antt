@@ -1,0 +1,28 @@
+use Rattle.std.proofs.Common.{◌∙◌, refl}
+use Rattle.asgi_many.specs.declared.serving.Served.TheVariants.{All, TooLong}
+use Rattle.asgi_many.proofs.ServingLemmas as lemma
+use Rattle.asgi_many.proofs.serving.serve_many.Goals as goal
+
+pub loop-step-init : goal.loop-step-init
+loop-step-init g c = record {
+  going = lemma.begins _ _ _ _ _ _ _ _ _ _ _ _ c.in_ok-table.table c.in_ok-table.ensures.empty.2 (c.in_ok-table.ensures.holds c.args.app.now c.args.state.now);
+  same_app = c.of-calls.ensures.app;
+}
+
+pub returns-then-is_empty-clause-serves : goal.returns-then-is_empty-clause-serves
+returns-then-is_empty-clause-serves g c =
+    lemma.serves _ _ _ _ _ _ _ _ _ _ _ _ _ _ _ All (λ all. c.if-is_empty.ensures.0 refl) c.loop-step.invariant.going
+
+pub step-intake-requires : goal.step-intake-requires
+step-intake-requires g c =
+    (c.args.limits.now, g.N.Reactor.answers c.args.reactor.now, c.args.teller.now, rw c.loop-step.invariant.same_app c.loop-step.invariant.going)
+
+pub loop-step-preserved : goal.loop-step-preserved
+loop-step-preserved g c = record {
+  going = (rw c.loop-step.invariant.same_app at (c.step-intake.ensures.goes_on c.args.limits.now (g.N.Reactor.answers c.args.reactor.now) c.args.teller.now)) c.loop-step.invariant.going;
+  same_app = c.step-intake.ensures.same ∙ c.loop-step.invariant.same_app;
+}
+
+pub returns-clause-serves : goal.returns-clause-serves
+returns-clause-serves g c =
+    lemma.serves _ _ _ _ _ _ _ _ _ _ _ _ _ _ _ TooLong (λ all. lemma.not_all all) c.loop-step.invariant.going

@@ -1,0 +1,12 @@
+use Rattle.std.proofs.Common.{refl}
+use Rattle.asgi_many.proofs.ServingLemmas as lemma
+use Rattle.asgi_many.proofs.serving.step.Goals as goal
+
+pub returns-then-has_seat-clause-goes_on : goal.returns-then-has_seat-clause-goes_on
+returns-then-has_seat-clause-goes_on g c limits asked told going =
+    lemma.takes_in _ _ _ _ _ _ _ limits _ _ asked _ _ told _ _ _ (λ places sits. c.take_in.ensures.sits c.args.calls.now.app.now limits asked places sits) going
+
+pub go_on-requires : goal.go_on-requires
+go_on-requires g c =
+    let (limits, asked, told, going) = c.requires in
+    (limits, asked, told, lemma.goes_on _ _ _ _ _ _ _ limits _ _ asked _ _ told _ _ _ c.wait.ensures.told refl (λ came places holds. holds) going)

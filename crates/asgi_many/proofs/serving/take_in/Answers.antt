@@ -1,0 +1,23 @@
+use Rattle.std.proofs.Common.{[], ◌∷◌, ◌++◌, None, refl, inl, inr}
+use Rattle.asgi_many.proofs.ServingLemmas as lemma
+use Rattle.asgi_many.proofs.serving.take_in.Goals as goal
+
+pub returns-in-Ok : goal.returns-in-Ok
+returns-in-Ok g c = record {
+  sits = λ app limits asked places sits. (
+    places ++ None ∷ [],
+    inr refl,
+    lemma.arrives _ _ _ _ _ _ _ limits _ asked _ _ places _ _ c.in-Arrived.newcomer c.in-Arrived.ensures.told c.in-Ok.ensures.limits.0
+        (λ came holds. c.in-Ok.ensures.holds app came places holds) sits,
+  );
+}
+
+pub returns-in-NoneNow : goal.returns-in-NoneNow
+returns-in-NoneNow g c = record {
+  sits = λ app limits asked places sits. (places, inl refl, lemma.none_arrives _ _ _ _ _ _ _ limits _ asked _ _ places _ c.in-NoneNow.ensures.told sits);
+}
+
+pub returns-in-NoneEver : goal.returns-in-NoneEver
+returns-in-NoneEver g c = record {
+  sits = λ app limits asked places sits. (places, inl refl, lemma.none_will_arrive _ _ _ _ _ _ _ limits _ asked _ _ places _ c.in-NoneEver.ensures.told sits);
+}

@@ -1,0 +1,56 @@
+//! Where connections come from, and which of them may go on.
+ghost use Rattle.std.specs.Prelude.{◌≡◌, ◌++◌, ◌∷◌, [], List};
+ghost use Rattle.asgi_many.specs.declared.reactor.Next.{Next};
+
+use crate::seat::Newcomer;
+use asgi_ws::Line;
+
+/// How a reactor answers when it is asked for a connection.
+#[derive(Drop)]
+pub enum Next<L> {
+    /// The next connection.
+    Arrived(Newcomer<L>),
+    /// None is there yet.
+    NoneNow,
+    /// None will come any more.
+    NoneEver,
+}
+
+/// What may be done next.
+#[derive(Clone, Copy, Debug, PartialEq, Eq)]
+pub enum Ready {
+    /// The connection in this seat may move something, or it is time to count that it does not.
+    Seat(usize),
+    /// A connection may have arrived.
+    Arrivals,
+}
+
+/// Gives connections, and says which of them may go on. Of that it promises nothing: it may name any seat at any time, also
+/// one that is free or not there.
+pub trait Reactor {
+    /// What carries the bytes of a connection.
+    type L: Line + Drop;
+
+    // How each call of `try_next` was answered, in order.
+    ghost answers: { Self → List (Next Self.L) };
+
+    /// The next connection, which takes this seat. It does not wait.
+    fn try_next(&mut self, at: usize) -> Next<Self::L>
+        ensures told { answers self.new ≡ answers self.old ++ result ∷ [] };
+
+    /// What may be done next. It may wait for it.
+    fn wait(&mut self) -> Ready
+        ensures told { answers self.new ≡ answers self.old };
+
+    /// Whether the connection in this seat may take a turn now. Not while the end of a text waits to leave, for example.
+    fn may_go_on(&mut self, at: usize, line: &Self::L) -> bool
+        ensures told { answers self.new ≡ answers self.old };
+
+    /// The connection in this seat moved something in its turn, and may move more at once.
+    fn again(&mut self, at: usize)
+        ensures told { answers self.new ≡ answers self.old };
+
+    /// The connection in this seat has ended, and the seat is free. Its line is closed once what was written has left.
+    fn close(&mut self, at: usize, line: Self::L)
+        ensures told { answers self.new ≡ answers self.old };
+}

@@ -1,0 +1,74 @@
+//! Many connections in one thread: `asgi_many_example ADDRESS SEATS COUNT APP [TICK]`.
+#![tactic(auto)]
+
+mod sums;
+mod words;
+
+use asgi_apps::{Application, Echo, Hello, WsEcho};
+use asgi_many::Served;
+use asgi_reactor::{Numbers, SocketReactor, serve_in_thread};
+use asgi_types::{BadLimit, Limits, State};
+use std::io::{self, Write};
+use std::process::ExitCode;
+use std::time::Duration;
+use sums::Sums;
+use words::{App, Words, usage, words_of};
+
+/// For how many ticks in a row a client may take nothing of what waits for it.
+const PATIENCE: u32 = 30;
+
+fn main(rt: HostRuntime) -> ExitCode {
+    let Some(words) = words_of(&rt) else {
+        return usage(&mut io::writer(&rt));
+    };
+    let served = match words.app {
+        App::Hello => serve(&rt, &words, &Hello),
+        App::Echo => serve(&rt, &words, &Echo),
+        App::WsEcho => serve(&rt, &words, &WsEcho),
+    };
+    match served {
+        Ok(()) => ExitCode::from(0),
+        Err(_) => ExitCode::from(5),
+    }
+}
+
+/// Serves so many connections, and prints how many there were, and how many requests they had.
+fn serve<A: Application>(rt: &HostRuntime, words: &Words, app: &A) -> io::Result<()> {
+    let limits = limits();
+    let state = State::new(rt.alloc());
+    let numbers = Numbers {
+        seats: words.seats,
+        count: words.count,
+        tick: Duration::from_millis(words.tick),
+        patience: PATIENCE,
+    };
+    let mut reactor = SocketReactor::open(rt, rt.alloc(), words.address, &numbers, None)?;
+    let mut out = io::writer(rt);
+    writeln!(out, "listening on {}", reactor.address()?)?;
+    let mut sums = Sums::new();
+    let served = serve_in_thread(
+        rt,
+        &limits,
+        words.seats,
+        &state,
+        app,
+        &mut reactor,
+        &mut sums,
+    )?;
+    if served != Served::All || reactor.why().is_some() {
+        return Err(io::Error::from(io::ErrorKind::Other));
+    }
+    writeln!(
+        out,
+        "{} connections, {} requests",
+        sums.connections, sums.requests
+    )
+}
+
+/// The usual limits, but for 75 idle turns in a row: a client may say nothing for as many ticks.
+fn limits() -> Limits {
+    match Limits::new(16_384, 64, 1_048_576, 16_384, 16, 75, 1 << 40) {
+        Ok(limits) => limits,
+        Err(BadLimit) => Limits::usual(),
+    }
+}

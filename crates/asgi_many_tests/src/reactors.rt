@@ -1,0 +1,223 @@
+//! A server over a reactor that names seats in an order that a seed draws, also free ones and ones that are not there: each
+//! connection is served as it is alone, and told of once.
+ghost use Rattle.std.specs.Prelude.{◌≡◌, ◌++◌, ◌∷◌, []};
+
+use crate::drawn::INPUTS;
+use crate::lines::{Input, Line, line, newcomer};
+use crate::serving::Draws;
+use asgi_apps::{AppTask, Application, Echo, Hello};
+use asgi_conn::{Host, Inline};
+use asgi_fakes::{Way, serve, text_of};
+use asgi_io::History;
+use asgi_many::{Newcomer, Next, Reactor, Ready, Report, Served, Teller, serve_many};
+use asgi_types::{Limits, State};
+use futures::task::{Doorbell, Solo};
+use std::alloc::AllocError;
+use std::io;
+use std::test::Fail;
+
+/// Gives a connection for each input.
+#[derive(Drop)]
+struct Drawn {
+    /// Those that come, the last one first.
+    comers: Vec<Newcomer<Line>>,
+    draws: Draws,
+    seats: u64,
+    /// The lines of those that have ended.
+    closed: Vec<Line>,
+    /// How often it was asked for a connection.
+    asked: u64,
+    told: History<Next<Line>>,
+}
+
+impl Drawn {
+    fn new<H: Host>(rt: &H, inputs: &[Input], seats: usize, seed: u64) -> Result<Self, AllocError> {
+        let mut comers = Vec::new(rt.alloc());
+        for input in inputs.iter().rev() {
+            comers.push(newcomer(rt, input, 1_000)?)?;
+        }
+        Ok(Drawn {
+            comers,
+            draws: Draws { seed },
+            seats: seats as u64,
+            closed: Vec::new(rt.alloc()),
+            asked: 0,
+            told: History::new(),
+        })
+    }
+
+    fn next(&mut self) -> Next<Line>
+        ensures { self.new.told ≡ self.old.told }
+    {
+        self.asked = self.asked.saturating_add(1);
+        if self.draws.draw() % 3 == 0 {
+            return Next::NoneNow;
+        }
+        match self.comers.pop() {
+            Some(newcomer) => Next::Arrived(newcomer),
+            None => Next::NoneEver,
+        }
+    }
+}
+
+impl Reactor for Drawn {
+    type L = Line;
+
+    ghost answers = { λ r. r.told.items };
+
+    fn try_next(&mut self, _at: usize) -> Next<Line> {
+        let next = self.next();
+        self.told = History::with(&self.told, &next);
+        next
+    }
+
+    fn wait(&mut self) -> Ready {
+        let drawn = self.draws.draw();
+        if drawn % 4 == 0 {
+            return Ready::Arrivals;
+        }
+        Ready::Seat(((drawn >> 8) % self.seats.saturating_add(2)) as usize)
+    }
+
+    fn may_go_on(&mut self, _at: usize, _line: &Line) -> bool {
+        self.draws.draw() % 8 != 0
+    }
+
+    fn again(&mut self, _at: usize) {}
+
+    fn close(&mut self, _at: usize, line: Line) {
+        let _kept = self.closed.push(line);
+    }
+}
+
+/// Keeps what it is told.
+#[derive(Drop)]
+struct Reports {
+    list: Vec<(u64, Report)>,
+}
+
+impl Teller<Report> for Reports {
+    ghost tells = { λ _ _ _ _. Unit {0} };
+
+    fn tell(&mut self, number: u64, report: &Report) {
+        let _kept = self.list.push((number, *report));
+    }
+}
+
+/// Serves all that come, and returns how that ended, and what was told.
+fn served<H: Host, A: Application>(
+    rt: &H,
+    app: &A,
+    seats: usize,
+    reactor: &mut Drawn,
+) -> io::Result<(Served, Vec<(u64, Report)>)> {
+    let state = State::new(rt.alloc());
+    let mut reports = Reports {
+        list: Vec::new(rt.alloc()),
+    };
+    let solo = Solo::new(rt, Doorbell::spinning())?;
+    let mut runner = Inline::new(solo.begin());
+    let served = serve_many(
+        rt.alloc(),
+        &Limits::usual(),
+        seats,
+        &state,
+        app,
+        reactor,
+        &mut runner,
+        &mut reports,
+    );
+    runner.end();
+    let Reports { list } = reports;
+    Ok((served?, list))
+}
+
+/// Whether the connection of this number ended as it does alone.
+fn is_as_alone<H: Host, T: AppTask + Send + 'static, A: Application<Task = T>>(
+    rt: &H,
+    app: &A,
+    told: &(u64, Report),
+    ended: &Line,
+) -> io::Result<bool> {
+    let place = told.0.saturating_sub(1) as usize;
+    let Some(input) = INPUTS.get(place) else {
+        return Ok(false);
+    };
+    let mut alone = line(rt, input)?;
+    let (report, _) = serve(rt, Way::Inline, &Limits::usual(), app, &mut alone)?;
+    Ok(told.1 == report && text_of(ended) == text_of(&alone))
+}
+
+/// Whether each of these numbers is there once: 1 upwards.
+fn are_all(told: &[(u64, Report)], many: usize) -> bool {
+    for number in 1..=(many as u64) {
+        if told.iter().filter(|it| it.0 == number).count() != 1 {
+            return false;
+        }
+    }
+    told.len() == many
+}
+
+/// Whether each has ended once, as it does alone.
+fn are_as_alone<H: Host, T: AppTask + Send + 'static, A: Application<Task = T>>(
+    rt: &H,
+    app: &A,
+    seats: usize,
+    seed: u64,
+) -> io::Result<bool> {
+    let mut reactor = Drawn::new(rt, INPUTS, seats, seed)?;
+    let (how, told) = served(rt, app, seats, &mut reactor)?;
+    if how != Served::All || !are_all(&told, INPUTS.len()) {
+        return Ok(false);
+    }
+    for (one, ended) in told.iter().zip(reactor.closed.iter()) {
+        if !is_as_alone(rt, app, one, ended)? {
+            return Ok(false);
+        }
+    }
+    Ok(reactor.closed.len() == INPUTS.len())
+}
+
+const SEATS: &[usize] = &[1, 2, 5, 64];
+
+#[test]
+fn a_server_greets_each_as_one_alone(rt: HostRuntime) -> Result<(), Fail> {
+    for seats in SEATS {
+        for seed in 1..6u64 {
+            assert!(rt;
+                are_as_alone(&rt, &Hello, *seats, seed * 7_919)?,
+                "{seats} seats, seed {seed}"
+            );
+        }
+    }
+    Ok(())
+}
+
+#[test]
+fn a_server_echoes_to_each_as_one_alone(rt: HostRuntime) -> Result<(), Fail> {
+    for seats in SEATS {
+        for seed in 1..6u64 {
+            assert!(rt;
+                are_as_alone(&rt, &Echo, *seats, seed * 104_729)?,
+                "{seats} seats, seed {seed}"
+            );
+        }
+    }
+    Ok(())
+}
+
+/// Serves all inputs, or asks for none where memory is refused before the first.
+fn holds_with_memory<H: Host>(rt: &H) -> io::Result<bool> {
+    let mut reactor = Drawn::new(rt, INPUTS, 4, 7_919)?;
+    match served(rt, &Hello, 4, &mut reactor) {
+        Ok((how, told)) => Ok(how == Served::All && told.len() <= INPUTS.len()),
+        Err(e) if reactor.asked == 0 => Err(e),
+        Err(_) => Ok(false),
+    }
+}
+
+#[test]
+fn memory_for_a_server_of_many(rt: HostRuntime) -> Result<(), Fail> {
+    assert!(rt; holds_with_memory(&rt)?);
+    Ok(())
+}

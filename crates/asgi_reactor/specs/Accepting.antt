@@ -1,0 +1,17 @@
+-- What an answer of a reactor says of what was accepted.
+use Rattle.std.specs.Prelude.{⊤}
+use Rattle.asgi_many.specs.declared.reactor.Next.{Next}
+use Rattle.asgi_many.specs.declared.reactor.Next.TheVariants.{Arrived, NoneNow, NoneEver}
+use Rattle.asgi_many.specs.declared.seat.Newcomer.{Newcomer}
+
+-- this holds of the newcomer, if there is one
+abbrev pub IfArrived : {L : Type 0} → Next L → (Newcomer L → Type 0) → Type 0
+IfArrived (Arrived newcomer) P = P newcomer
+IfArrived NoneNow P = ⊤
+IfArrived NoneEver P = ⊤
+
+-- there is none
+abbrev pub IsNone : {L : Type 0} → Next L → Type 0
+IsNone (Arrived newcomer) = ⊥
+IsNone NoneNow = ⊤
+IsNone NoneEver = ⊤

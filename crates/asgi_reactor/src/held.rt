@@ -1,0 +1,121 @@
+//! What a stream has not taken yet.
+ghost use Rattle.std.specs.Prelude.{◌≡◌, ◌≤◌, ◌++◌, [], ℕ, List, IsTrue, IfOk, OnOk, OnErr, MatchResult, length, take, vec_len, drop, ◌+◌};
+ghost use Rattle.std.specs.Io.{WritesAtMost};
+ghost use Rattle.std.specs.Io.KnownBytes.{WriteAppends};
+ghost use Rattle.asgi_reactor.specs.Holding.{GoesOut, taken, waiting};
+
+use asgi_io::is_passing;
+use std::alloc::{AllocError, Global};
+use std::io::{self, ErrorKind, Write};
+
+/// Bytes that wait to be written, in order.
+#[derive(Drop)]
+pub struct Held {
+    alloc: Global,
+    // `buf[start..]` waits.
+    buf: Vec<u8>,
+    start: usize,
+    ghost in_bounds: { start ≤ vec_len buf },
+}
+
+impl Held {
+    /// Nothing waits. Allocates nothing.
+    pub fn new(alloc: Global) -> Self
+        ensures { waiting result.buf.items result.start ≡ [] }
+    {
+        Held {
+            alloc,
+            buf: Vec::new(alloc),
+            start: 0,
+        }
+    }
+
+    /// How many bytes wait.
+    pub fn len(&self) -> usize
+        ensures { result ≡ length (waiting self.now.buf.items self.now.start) }
+    {
+        self.buf.len() - self.start
+    }
+
+    /// Whether nothing waits.
+    pub fn is_empty(&self) -> bool
+        ensures { IsTrue result → waiting self.now.buf.items self.now.start ≡ [] }
+    {
+        self.start >= self.buf.len()
+    }
+
+    /// These bytes wait behind the others. If memory is refused, nothing changes.
+    pub fn put(&mut self, bytes: &[u8]) -> Result<(), AllocError>
+        ensures waits { OnOk result (waiting self.new.buf.items self.new.start ≡ waiting self.old.buf.items self.old.start ++ bytes.now) }
+        ensures refused { OnErr result (waiting self.new.buf.items self.new.start ≡ waiting self.old.buf.items self.old.start) }
+    {
+        self.buf.extend_from_slice(bytes)
+    }
+
+    /// Writes once what waits, as much of it as the stream takes, and returns whether all of it is out.
+    pub fn push<W: Write>(&mut self, stream: &mut W) -> io::Result<bool>
+        ensures bytes { GoesOut (W.contents stream.old) (W.contents stream.new) (waiting self.old.buf.items self.old.start) (waiting self.new.buf.items self.new.start) }
+        ensures all { IfOk result (λ all. IsTrue all → waiting self.new.buf.items self.new.start ≡ []) }
+    {
+        let took = stream.write(&self.buf[self.start..])?;
+        self.start += took;
+        if self.start < self.buf.len() {
+            return Ok(false);
+        }
+        self.clear();
+        Ok(true)
+    }
+
+    /// Nothing waits any more. Its memory is given back.
+    fn clear(&mut self)
+        ensures { waiting self.new.buf.items self.new.start ≡ [] }
+    {
+        self.start = 0;
+        self.buf = Vec::new(self.alloc);
+    }
+
+    /// Writes the bytes behind those that wait, and returns how many were taken: what the stream does not take waits too. So all
+    /// are taken, unless the stream fails, or memory is refused.
+    pub fn write<W: Write>(&mut self, stream: &mut W, buf: &[u8]) -> io::Result<usize>
+        ensures bound { WritesAtMost result buf.now }
+        ensures bytes { WriteAppends (taken (W.contents stream.old) self.old.buf.items self.old.start) (taken (W.contents stream.new) self.new.buf.items self.new.start) result buf.now }
+    {
+        if !self.is_empty() {
+            match self.push(stream) {
+                Ok(true) => {}
+                Ok(false) => return self.hold(buf),
+                Err(e) if is_passing(&e) => return self.hold(buf),
+                Err(e) => return Err(e),
+            }
+        }
+        match stream.write(buf) {
+            Ok(took) => Ok(self.hold_rest(buf, took)),
+            Err(e) if is_passing(&e) => self.hold(buf),
+            Err(e) => Err(e),
+        }
+    }
+
+    /// All of these bytes wait.
+    fn hold(&mut self, bytes: &[u8]) -> io::Result<usize>
+        ensures bound { WritesAtMost result bytes.now }
+        ensures waits { MatchResult result (λ n. waiting self.new.buf.items self.new.start ≡ waiting self.old.buf.items self.old.start ++ take n bytes.now)
+            (λ _. waiting self.new.buf.items self.new.start ≡ waiting self.old.buf.items self.old.start) }
+    {
+        match self.put(bytes) {
+            Ok(()) => Ok(bytes.len()),
+            Err(_) => Err(io::Error::from(ErrorKind::WouldBlock)),
+        }
+    }
+
+    /// The bytes behind the first few wait, and are taken too, unless memory is refused.
+    fn hold_rest(&mut self, bytes: &[u8], took: usize) -> usize
+        requires { took ≤ length bytes.now }
+        ensures bound { result ≤ length bytes.now }
+        ensures waits { (n : ℕ) × (waiting self.new.buf.items self.new.start ≡ waiting self.old.buf.items self.old.start ++ take n (drop took bytes.now)) × (result ≡ took + n) }
+    {
+        match self.put(&bytes[took..]) {
+            Ok(()) => bytes.len(),
+            Err(_) => took,
+        }
+    }
+}

@@ -1,0 +1,18 @@
+//! Connections of a port for a server of many connections in one thread, whose sockets are asked for nothing until the
+//! system says that they are ready.
+#![tactic(auto)]
+
+mod faults;
+mod held;
+mod peers;
+mod place;
+mod polled;
+mod queue;
+mod reactor;
+mod thread;
+
+pub use asgi_many::{Next, Reactor, Ready, Served, Teller, serve_many};
+pub use held::Held;
+pub use polled::Polled;
+pub use reactor::{Numbers, PolledLine, SocketReactor};
+pub use thread::serve_in_thread;

@@ -1,0 +1,90 @@
+//! What is known of a socket that was registered.
+use crate::polled::Polled;
+use asgi_ws::Wired;
+
+/// A line over a socket that never waits.
+pub type PolledLine = Wired<Polled>;
+
+/// What a socket is used for.
+#[derive(Drop)]
+pub(crate) enum Use {
+    /// The connection in this seat.
+    Seat(usize),
+    /// A connection that has ended, whose line is closed, after so many ticks at the latest.
+    Closing(PolledLine, u32),
+}
+
+/// A socket that was registered.
+#[derive(Drop)]
+pub(crate) struct Place {
+    pub(crate) usage: Use,
+    /// It waits in the queue.
+    pub(crate) is_queued: bool,
+    /// It was taken up since the last tick.
+    pub(crate) was_named: bool,
+    /// It has bytes that wait for room.
+    pub(crate) is_blocked: bool,
+    /// A tick has passed since its line was told something.
+    pub(crate) has_ticked: bool,
+    /// In how many ticks in a row nothing of what waits for room has left.
+    pub(crate) stuck: u32,
+    /// What the system told of it, and its line was not told yet.
+    pub(crate) is_readable: bool,
+    pub(crate) is_ended: bool,
+}
+
+impl Place {
+    /// That of a newcomer in this seat.
+    pub(crate) fn of_seat(at: usize) -> Place {
+        Place {
+            usage: Use::Seat(at),
+            is_queued: false,
+            was_named: true,
+            is_blocked: false,
+            has_ticked: false,
+            stuck: 0,
+            is_readable: false,
+            is_ended: false,
+        }
+    }
+
+    /// Its line is told what the system told of it. Whether nothing waits for room any more: all has left, or its client is given
+    /// up, since nothing did for this many ticks.
+    pub(crate) fn tell(&mut self, polled: &Polled, patience: u32) -> bool {
+        self.was_named = true;
+        if self.is_ended {
+            polled.has_ended();
+        } else if self.is_readable {
+            polled.may_be_read();
+        }
+        self.is_readable = false;
+        self.is_blocked = !polled.push();
+        if self.is_blocked && self.is_stuck(polled, patience) {
+            polled.give_up();
+            self.is_blocked = false;
+        }
+        !self.is_blocked
+    }
+
+    /// Whether nothing of what waits for room has left for this many ticks.
+    fn is_stuck(&mut self, polled: &Polled, patience: u32) -> bool {
+        if !self.has_ticked {
+            return false;
+        }
+        self.has_ticked = false;
+        self.stuck = if polled.has_moved() {
+            0
+        } else {
+            self.stuck.saturating_add(1)
+        };
+        self.stuck >= patience
+    }
+
+    /// A tick has passed. Whether it is to be taken up: it was not since the one before, or it has bytes that wait.
+    pub(crate) fn is_due(&mut self) -> bool {
+        let was_named = self.was_named;
+        self.was_named = false;
+        self.has_ticked = true;
+        !was_named || self.is_blocked
+    }
+}

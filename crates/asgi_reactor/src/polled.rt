@@ -1,0 +1,163 @@
+//! A socket that never waits.
+use crate::held::Held;
+use asgi_io::is_passing;
+use mio::net::TcpStream;
+use std::alloc::Global;
+use std::cell::{Cell, RefCell};
+use std::io::{self, ErrorKind, Read, Write};
+use std::net::Shutdown;
+
+/// How many bytes are read at a time of a connection that is being closed.
+const DRAINED: usize = 4_096;
+
+/// How many reads in a row are made of a connection that is being closed.
+const READS: u32 = 16;
+
+/// A socket that never waits. It is read only once it was told that something may be there, until a read found less than
+/// it had room for. What the socket does not take of a write is held, and counts as written: it goes out before anything
+/// else is read or written, once there is room. If memory for it is refused, a write takes only what the socket took.
+#[derive(Drop)]
+pub struct Polled {
+    stream: TcpStream,
+    held: RefCell<Held>,
+    // A read may find something.
+    is_readable: Cell<bool>,
+    // The peer sends no more, or the socket failed: each read tells at once.
+    is_ended: Cell<bool>,
+    // Some of what was held has left since it was asked for.
+    has_moved: Cell<bool>,
+    // Nothing more can be written.
+    is_broken: Cell<bool>,
+    // The write half was shut.
+    is_shut: Cell<bool>,
+}
+
+impl Polled {
+    /// A socket over this stream, which does not block, and of which nothing was read yet.
+    pub fn new(alloc: Global, stream: TcpStream) -> Self {
+        Polled {
+            stream,
+            held: RefCell::new(Held::new(alloc)),
+            is_readable: Cell::new(false),
+            is_ended: Cell::new(false),
+            has_moved: Cell::new(false),
+            is_broken: Cell::new(false),
+            is_shut: Cell::new(false),
+        }
+    }
+
+    /// Something may be there to be read.
+    pub fn may_be_read(&self) {
+        self.is_readable.set(true);
+    }
+
+    /// The peer sends no more, or the socket failed.
+    pub fn has_ended(&self) {
+        self.is_readable.set(true);
+        self.is_ended.set(true);
+    }
+
+    /// Writes once what is held, and returns whether none of it waits for room: all of it is out, or can't be written any more.
+    pub fn push(&self) -> bool {
+        if self.is_broken.get() {
+            return true;
+        }
+        let Ok(mut held) = self.held.try_borrow_mut() else {
+            return false;
+        };
+        if held.is_empty() {
+            return true;
+        }
+        let before = held.len();
+        let mut stream = &self.stream;
+        let pushed = held.push(&mut stream);
+        if held.len() < before {
+            self.has_moved.set(true);
+        }
+        match pushed {
+            Ok(all) => all,
+            Err(e) => {
+                self.is_broken.set(!is_passing(&e));
+                self.is_broken.get()
+            }
+        }
+    }
+
+    /// Whether some of what was held has left since this was asked the last time.
+    pub fn has_moved(&self) -> bool {
+        self.has_moved.replace(false)
+    }
+
+    /// Its client takes too little: nothing more is written to it, and nothing is read of it.
+    pub fn give_up(&self) {
+        let _shut = self.stream.shutdown(Shutdown::Both);
+        self.is_broken.set(true);
+        self.is_shut.set(true);
+        self.has_ended();
+    }
+
+    /// Goes on to close the connection: writes what is held, shuts the write half, and reads what the peer still sends
+    /// (RFC 9112, section 9.6). Whether it may be closed now: the peer has closed it too, or it failed.
+    pub fn close(&self) -> bool {
+        if !self.push() {
+            return false;
+        }
+        if !self.is_shut.get() {
+            self.is_shut.set(true);
+            if self.stream.shutdown(Shutdown::Write).is_err() {
+                return true;
+            }
+        }
+        self.drain()
+    }
+
+    /// Reads and drops what is there. Whether that was all that comes.
+    fn drain(&self) -> bool {
+        let mut piece = [0; DRAINED];
+        for _read in 0..READS {
+            let mut stream = &self.stream;
+            match stream.read(&mut piece) {
+                Ok(0) => return true,
+                Ok(_) => {}
+                Err(e) => return !is_passing(&e),
+            }
+        }
+        false
+    }
+
+    /// What the outcome of a read with this much room says of the next one.
+    fn note(&self, read: &io::Result<usize>, room: usize) {
+        if self.is_ended.get() {
+            return;
+        }
+        match read {
+            Ok(many) => self.is_readable.set(*many >= room),
+            Err(e) => self.is_readable.set(e.kind() != ErrorKind::WouldBlock),
+        }
+    }
+}
+
+fn would_block() -> io::Error {
+    io::Error::from(ErrorKind::WouldBlock)
+}
+
+impl Read for Polled {
+    fn read(&mut self, buf: &mut [u8]) -> io::Result<usize> {
+        if !self.push() || !self.is_readable.get() {
+            return Err(would_block());
+        }
+        let read = self.stream.read(buf);
+        self.note(&read, buf.len());
+        read
+    }
+}
+
+impl Write for Polled {
+    fn write(&mut self, buf: &[u8]) -> io::Result<usize> {
+        self.held.get_mut().write(&mut self.stream, buf)
+    }
+
+    fn flush(&mut self) -> io::Result<()> {
+        Ok(())
+    }
+}

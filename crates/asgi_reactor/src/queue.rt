@@ -1,0 +1,221 @@
+//! The sockets that were registered, and those of them that are to be taken up.
+use crate::place::{Place, PolledLine, Use};
+use mio::event::Event;
+use slab::Slab;
+use std::alloc::{AllocError, Global};
+use std::collections::VecDeque;
+
+/// How many turns in a row one connection takes before the others have theirs.
+const IN_A_ROW: u32 = 16;
+
+/// How many ticks a connection that has ended is kept for its peer to close it too.
+const CLOSING_TICKS: u32 = 2;
+
+/// The sockets that were registered, under their tokens, and those that are to be taken up.
+#[derive(Drop)]
+pub(crate) struct Queue {
+    places: Slab<Place>,
+    /// The tokens of seats.
+    tokens: Vec<usize>,
+    waiting: VecDeque<usize>,
+    /// The one that goes on at once, and how many turns in a row it has had.
+    first: Option<usize>,
+    turns: u32,
+    /// How many that wait are taken up before the system is asked again.
+    round: usize,
+    /// For how many ticks in a row nothing of what waits for room may leave.
+    patience: u32,
+}
+
+impl Queue {
+    /// No socket is registered.
+    pub(crate) fn new(alloc: Global, seats: usize, patience: u32) -> Result<Self, AllocError> {
+        let mut tokens = Vec::new(alloc);
+        tokens.resize(seats, usize::MAX)?;
+        Ok(Queue {
+            places: Slab::with_capacity(alloc, seats)?,
+            tokens,
+            waiting: VecDeque::new(alloc),
+            first: None,
+            turns: 0,
+            round: 0,
+            patience,
+        })
+    }
+
+    /// Whether some wait to be taken up.
+    pub(crate) fn is_waiting(&self) -> bool {
+        !self.waiting.is_empty()
+    }
+
+    /// Whether there is room for one more socket: none if memory is refused.
+    pub(crate) fn has_room(&mut self) -> bool {
+        self.places.reserve(1).is_ok()
+    }
+
+    /// A token for the socket of a newcomer in this seat, unless memory is refused or there is no such seat.
+    pub(crate) fn add(&mut self, at: usize) -> Option<usize> {
+        let seat = self.tokens.get_mut(at)?;
+        let token = self.places.insert(Place::of_seat(at)).ok()?;
+        *seat = token;
+        Some(token)
+    }
+
+    /// The socket with this token is not registered any more.
+    pub(crate) fn remove(&mut self, token: usize) {
+        let _gone = self.places.try_remove(token);
+    }
+
+    /// The system told this of a socket.
+    pub(crate) fn note(&mut self, token: usize, event: &Event) {
+        let Some(place) = self.places.get_mut(token) else {
+            return;
+        };
+        let has_ended = event.is_read_closed() || event.is_error();
+        place.is_ended = place.is_ended || has_ended;
+        place.is_readable = place.is_readable || event.is_readable() || has_ended;
+        if place.is_readable || place.is_blocked {
+            self.push(token);
+        }
+    }
+
+    /// The socket with this token waits to be taken up.
+    fn push(&mut self, token: usize) {
+        let Some(place) = self.places.get_mut(token) else {
+            return;
+        };
+        if place.is_queued {
+            return;
+        }
+        // If memory is refused, it is taken up at a tick.
+        place.is_queued = self.waiting.push_back(token).is_ok();
+    }
+
+    /// From here on those that wait now are taken up, once each.
+    pub(crate) fn begin_round(&mut self) {
+        self.round = self.waiting.len();
+    }
+
+    /// The seat that is taken up next, if there is one in this round.
+    pub(crate) fn next(&mut self) -> Option<usize> {
+        if let Some(token) = self.first.take() {
+            return self.seat_of(token);
+        }
+        self.turns = 0;
+        for _one in 0..self.round {
+            self.round = self.round.saturating_sub(1);
+            let token = self.waiting.pop_front()?;
+            if let Some(place) = self.places.get_mut(token) {
+                place.is_queued = false;
+            }
+            if let Some(at) = self.seat_of(token) {
+                return Some(at);
+            }
+            self.go_on_closing(token);
+        }
+        None
+    }
+
+    /// The seat whose socket has this token.
+    fn seat_of(&self, token: usize) -> Option<usize> {
+        match &self.places.get(token)?.usage {
+            Use::Seat(at) => Some(*at),
+            Use::Closing(..) => None,
+        }
+    }
+
+    /// The token of the socket of this seat.
+    fn token_of(&self, at: usize) -> Option<usize> {
+        self.tokens.get(at).copied()
+    }
+
+    /// The connection in this seat has moved something: it goes on at once, or behind the others.
+    pub(crate) fn again(&mut self, at: usize) {
+        let Some(token) = self.token_of(at) else {
+            return;
+        };
+        if self.turns < IN_A_ROW {
+            self.turns += 1;
+            self.first = Some(token);
+        } else {
+            self.push(token);
+        }
+    }
+
+    /// The line of this seat is told what the system told. Whether nothing of it waits for room.
+    pub(crate) fn tell(&mut self, at: usize, line: &PolledLine) -> bool {
+        let patience = self.patience;
+        let Some(token) = self.token_of(at) else {
+            return true;
+        };
+        let Some(place) = self.places.get_mut(token) else {
+            return true;
+        };
+        match line.stream() {
+            Some(polled) => place.tell(polled, patience),
+            None => true,
+        }
+    }
+
+    /// The connection in this seat has ended, and its line is closed.
+    pub(crate) fn close(&mut self, at: usize, line: PolledLine) {
+        let Some(token) = self.token_of(at) else {
+            return;
+        };
+        let Some(place) = self.places.get_mut(token) else {
+            return;
+        };
+        place.usage = Use::Closing(line, CLOSING_TICKS);
+        place.is_blocked = true;
+        self.go_on_closing(token);
+    }
+
+    /// Goes on to close the line with this token, if it has ended.
+    fn go_on_closing(&mut self, token: usize) {
+        let Some(place) = self.places.get(token) else {
+            return;
+        };
+        let is_over = match &place.usage {
+            Use::Seat(_) => false,
+            Use::Closing(line, _) => match line.stream() {
+                Some(polled) => polled.close(),
+                None => true,
+            },
+        };
+        if is_over {
+            self.remove(token);
+        }
+    }
+
+    /// A tick has passed: those that were not taken up since the one before are.
+    pub(crate) fn tick(&mut self) {
+        for token in 0..self.places.capacity() {
+            if self.is_late(token) {
+                self.remove(token);
+            } else if self.is_due(token) {
+                self.push(token);
+            }
+        }
+    }
+
+    fn is_due(&mut self, token: usize) -> bool {
+        match self.places.get_mut(token) {
+            Some(place) => place.is_due(),
+            None => false,
+        }
+    }
+
+    /// Whether the line with this token was to be closed for long enough.
+    fn is_late(&mut self, token: usize) -> bool {
+        let Some(place) = self.places.get_mut(token) else {
+            return false;
+        };
+        match &mut place.usage {
+            Use::Seat(_) => false,
+            Use::Closing(_, ticks) => {
+                *ticks = ticks.saturating_sub(1);
+                *ticks == 0
+            }
+        }
+    }
+}

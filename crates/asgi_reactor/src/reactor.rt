@@ -1,0 +1,322 @@
+//! Where the connections of a port come from, and which of them may go on.
+ghost use Rattle.std.specs.Prelude.{◌≡◌, ◌+◌, ◌++◌, ◌∷◌, [], None, IfOk, IsFalse};
+ghost use Rattle.asgi_reactor.specs.Accepting.{IfArrived, IsNone};
+
+use crate::faults::{Fault, fault_of};
+use crate::peers::peer_at;
+pub use crate::place::PolledLine;
+use crate::polled::Polled;
+use crate::queue::Queue;
+use asgi_io::History;
+use asgi_many::{Newcomer, Next, Reactor, Ready};
+use asgi_ws::Wired;
+use mio::net::{TcpListener, TcpStream};
+use mio::{Events, Interest, Poll, Token};
+use std::alloc::Global;
+use std::io;
+use std::net::{Net, SocketAddr};
+use std::sync::atomic::{AtomicBool, Ordering};
+use std::time::{Clock, Duration, Instant};
+
+/// The token of the listener.
+const ARRIVALS: usize = usize::MAX;
+
+/// How many events are taken of the system at a time.
+const EVENTS: usize = 1_024;
+
+/// How many connections in a row may be lost between their arrival and their being accepted.
+const LOST_IN_A_ROW: u32 = 1_000;
+
+/// The longest wait if a flag ends the server, in milliseconds.
+const FLAG_WAIT: u64 = 50;
+
+/// The numbers of a reactor.
+#[derive(Clone, Copy, Debug)]
+pub struct Numbers {
+    /// How many seats its server has.
+    pub seats: usize,
+    /// How many connections it gives at the most.
+    pub count: u64,
+    /// How often a seat that is not ready is named.
+    pub tick: Duration,
+    /// For how many ticks in a row nothing may leave of what a client has not taken, before it is given up.
+    pub patience: u32,
+}
+
+/// The connections of a port: at most a number of them, and none once a flag was found set. A seat is named once the
+/// system says that its socket is ready, and at each tick if it was not named since the one before. If no connection can be
+/// accepted any more, `why` has the system's error. A want of descriptors or of memory is waited for, from tick to tick.
+#[derive(Drop)]
+pub struct SocketReactor<'a, R: Clock> {
+    clock: &'a R,
+    alloc: Global,
+    poll: Poll,
+    events: Events<Global>,
+    listener: TcpListener,
+    queue: Queue,
+    // How many more connections will be accepted.
+    left: u64,
+    // Looked at before each accept.
+    flag: Option<&'a AtomicBool>,
+    // One may have arrived.
+    arrived: bool,
+    // How many in a row were lost.
+    lost: u32,
+    tick: Duration,
+    last_tick: Option<Instant>,
+    why: Option<io::Error>,
+    told: History<Next<PolledLine>>,
+}
+
+impl<'a, R: Net + Clock> SocketReactor<'a, R> {
+    /// Opens a socket that listens at this address, or at any free port of it if its port is 0. It gives no connection once
+    /// the flag is set. The system's error if the address can't be had.
+    pub fn open(
+        rt: &'a R,
+        alloc: Global,
+        address: SocketAddr,
+        numbers: &Numbers,
+        flag: Option<&'a AtomicBool>,
+    ) -> io::Result<Self>
+        ensures nothing { IfOk result (λ r. (r.told.items ≡ []) × (r.why ≡ None)) }
+        ensures count { IfOk result (λ r. r.left ≡ numbers.now.count) }
+    {
+        let poll = Poll::new(rt)?;
+        let mut listener = TcpListener::bind(rt, address)?;
+        poll.registry()
+            .register(&mut listener, Token(ARRIVALS), Interest::READABLE)?;
+        Ok(SocketReactor {
+            clock: rt,
+            alloc,
+            poll,
+            events: Events::with_capacity(alloc, EVENTS)?,
+            listener,
+            queue: Queue::new(alloc, numbers.seats, numbers.patience)?,
+            left: numbers.count,
+            flag,
+            arrived: true,
+            lost: 0,
+            tick: numbers.tick,
+            last_tick: Instant::now(rt).ok(),
+            why: None,
+            told: History::new(),
+        })
+    }
+}
+
+impl<R: Clock> SocketReactor<'_, R> {
+    /// The address at which it listens, with the port that the system chose if none was asked for.
+    pub fn address(&self) -> io::Result<SocketAddr> {
+        self.listener.local_addr()
+    }
+
+    /// Why no connection can be accepted any more: the system's error, once it has failed.
+    pub fn why(&self) -> Option<io::Error>
+        ensures { result ≡ self.now.why }
+    {
+        self.why
+    }
+
+    /// Whether no connection is accepted any more.
+    fn is_over(&self) -> bool
+        ensures left { IsFalse result → ¬ (self.now.left ≡ 0) }
+        ensures why { IsFalse result → self.now.why ≡ None }
+    {
+        self.left == 0 || self.why.is_some() || is_set(self.flag)
+    }
+
+    /// The next connection, for this seat.
+    fn accept(&mut self, at: usize) -> Next<PolledLine>
+        ensures told { self.new.told ≡ self.old.told }
+        ensures some { IfArrived result (λ _. (self.old.left ≡ self.new.left + 1) × (self.new.why ≡ None)) }
+        ensures none { IsNone result → self.new.left ≡ self.old.left }
+    {
+        if self.is_over() {
+            return Next::NoneEver;
+        }
+        if !self.queue.has_room() {
+            return Next::NoneNow;
+        }
+        match self.listener.accept() {
+            Ok((stream, from)) => match self.take(stream, from, at) {
+                Some(newcomer) => {
+                    self.left -= 1;
+                    self.lost = 0;
+                    Next::Arrived(newcomer)
+                }
+                None => self.passes(),
+            },
+            Err(e) => self.fails(e),
+        }
+    }
+
+    /// A connection was lost. The next one is asked for at once, unless too many were lost.
+    fn passes(&mut self) -> Next<PolledLine>
+        ensures none { IsNone result }
+        ensures same { (self.new.told ≡ self.old.told) × (self.new.left ≡ self.old.left) × (self.new.why ≡ self.old.why) }
+    {
+        self.lost = self.lost.saturating_add(1);
+        self.arrived = self.lost < LOST_IN_A_ROW;
+        Next::NoneNow
+    }
+
+    /// An accept failed.
+    fn fails(&mut self, e: io::Error) -> Next<PolledLine>
+        ensures none { IsNone result }
+        ensures same { (self.new.told ≡ self.old.told) × (self.new.left ≡ self.old.left) }
+    {
+        match fault_of(&e) {
+            Fault::Lost => self.passes(),
+            Fault::NoneNow => {
+                self.lost = 0;
+                Next::NoneNow
+            }
+            Fault::Short => Next::NoneNow,
+            Fault::Lasting => {
+                self.why = Some(e);
+                Next::NoneEver
+            }
+        }
+    }
+
+    /// Registers a connection that was accepted. It is lost if the system or memory refuses that.
+    fn take(
+        &mut self,
+        stream: TcpStream,
+        from: SocketAddr,
+        at: usize,
+    ) -> Option<Newcomer<PolledLine>>
+        ensures { (self.new.told ≡ self.old.told) × (self.new.left ≡ self.old.left) × (self.new.why ≡ self.old.why) }
+    {
+        let mut stream = stream;
+        // A response may leave in several writes, none of which is to wait for an acknowledgement of the one before.
+        let _delays = stream.set_nodelay(true);
+        let token = self.queue.add(at)?;
+        let both = Interest::READABLE | Interest::WRITABLE;
+        if self
+            .poll
+            .registry()
+            .register(&mut stream, Token(token), both)
+            .is_err()
+        {
+            self.queue.remove(token);
+            return None;
+        }
+        let client = peer_at(self.alloc, Ok(from));
+        let server = peer_at(self.alloc, stream.local_addr());
+        Some(Newcomer {
+            line: Wired::new(self.alloc, Polled::new(self.alloc, stream)),
+            client,
+            server,
+        })
+    }
+
+    /// How long the system may be waited for.
+    fn patience(&self) -> Duration {
+        if self.queue.is_waiting() {
+            return Duration::from_millis(0);
+        }
+        let rest = self.rest_of_tick();
+        if self.flag.is_some() {
+            return rest.min(Duration::from_millis(FLAG_WAIT));
+        }
+        rest
+    }
+
+    /// How long it is to the next tick.
+    fn rest_of_tick(&self) -> Duration {
+        let Some(last) = self.last_tick else {
+            return self.tick;
+        };
+        match last.elapsed(self.clock) {
+            Ok(since) => self.tick.saturating_sub(since),
+            Err(_) => self.tick,
+        }
+    }
+
+    /// Asks the system which sockets are ready, and waits if none is.
+    fn gather(&mut self)
+        ensures { (self.new.told ≡ self.old.told) × (self.new.left ≡ self.old.left) × (self.new.why ≡ self.old.why) }
+    {
+        let patience = self.patience();
+        // After a failed wait, by a signal for example, no event is left.
+        let _asked = self.poll.poll(&mut self.events, Some(patience));
+        for event in self.events.iter() {
+            let Token(token) = event.token();
+            if token == ARRIVALS {
+                self.arrived = true;
+            } else {
+                self.queue.note(token, event);
+            }
+        }
+        if is_set(self.flag) {
+            self.arrived = true;
+        }
+        if self.rest_of_tick() == Duration::from_millis(0) {
+            self.begin_tick();
+        }
+        self.queue.begin_round();
+    }
+
+    /// A tick has passed.
+    fn begin_tick(&mut self)
+        ensures { (self.new.told ≡ self.old.told) × (self.new.left ≡ self.old.left) × (self.new.why ≡ self.old.why) }
+    {
+        self.last_tick = Instant::now(self.clock).ok();
+        self.arrived = true;
+        self.queue.tick();
+    }
+
+    /// What may be done next, if it is known.
+    fn next_ready(&mut self) -> Option<Ready>
+        ensures { (self.new.told ≡ self.old.told) × (self.new.left ≡ self.old.left) × (self.new.why ≡ self.old.why) }
+    {
+        if self.arrived {
+            self.arrived = false;
+            return Some(Ready::Arrivals);
+        }
+        Some(Ready::Seat(self.queue.next()?))
+    }
+}
+
+/// Whether there is a flag, and it is set.
+fn is_set(flag: Option<&AtomicBool>) -> bool {
+    match flag {
+        Some(flag) => flag.load(Ordering::SeqCst),
+        None => false,
+    }
+}
+
+impl<R: Clock> Reactor for SocketReactor<'_, R> {
+    type L = PolledLine;
+
+    ghost answers = { λ r. r.told.items };
+
+    fn try_next(&mut self, at: usize) -> Next<PolledLine> {
+        let next = self.accept(at);
+        self.told = History::with(&self.told, &next);
+        next
+    }
+
+    fn wait(&mut self) -> Ready {
+        for _round in 0..u64::MAX {
+            if let Some(ready) = self.next_ready() {
+                return ready;
+            }
+            self.gather();
+        }
+        Ready::Arrivals
+    }
+
+    fn may_go_on(&mut self, at: usize, line: &PolledLine) -> bool {
+        self.queue.tell(at, line)
+    }
+
+    fn again(&mut self, at: usize) {
+        self.queue.again(at);
+    }
+
+    fn close(&mut self, at: usize, line: PolledLine) {
+        self.queue.close(at, line);
+    }
+}

@@ -1,0 +1,40 @@
+//! A server of many connections in the caller's thread.
+ghost use Rattle.std.specs.Prelude.{◌≡◌, IfOk};
+ghost use Rattle.asgi_many.specs.Serving.{ServesMany};
+
+use asgi_apps::Application;
+use asgi_many::{Inline, Reactor, Report, Served, Teller, serve_many};
+use asgi_types::{Limits, State};
+use futures::task::{Doorbell, Solo};
+use std::alloc::AllocGlobal;
+use std::io;
+
+/// Serves each connection that the reactor gives, as `serve_many` does, with each task run in the caller's thread: for
+/// applications that never block. The error is a want of memory, before the reactor was asked for anything.
+pub fn serve_in_thread<H: AllocGlobal, A: Application, N: Reactor, K: Teller<Report>>(
+    rt: &H,
+    limits: &Limits,
+    seats: usize,
+    state: &State,
+    app: &A,
+    reactor: &mut N,
+    teller: &mut K,
+) -> io::Result<Served>
+    ensures serves { IfOk result (λ how. ServesMany K.tells (A.answers app.now) N.L.state limits.now state.now (N.answers reactor.old) (N.answers reactor.new)
+        teller.old teller.new how) }
+{
+    let solo = Solo::new(rt, Doorbell::spinning())?;
+    let mut runner = Inline::new(solo.begin());
+    let served = serve_many(
+        rt.alloc(),
+        limits,
+        seats,
+        state,
+        app,
+        reactor,
+        &mut runner,
+        teller,
+    );
+    runner.end();
+    Ok(served?)
+}

@@ -1,0 +1,5 @@
+//! Tests of what a socket has not taken yet.
+#![tactic(auto)]
+
+#[cfg(test)]
+mod held;
