@@ -55,7 +55,9 @@ fn serve<A: Application>(rt: &HostRuntime, words: &Words, app: &A) -> io::Result
         &mut reactor,
         &mut sums,
     )?;
-    if served != Served::All || reactor.why().is_some() {
+    let is_whole = served == Served::All && reactor.why().is_none();
+    reactor.end();
+    if !is_whole {
         return Err(io::Error::from(io::ErrorKind::Other));
     }
     writeln!(

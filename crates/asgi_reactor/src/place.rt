@@ -33,6 +33,14 @@ pub(crate) struct Place {
     pub(crate) is_ended: bool,
 }
 
+/// In how many ticks in a row nothing has left, with one more.
+fn after_tick(stuck: u32, polled: &Polled) -> u32 {
+    if polled.has_moved() {
+        return 0;
+    }
+    stuck.saturating_add(1)
+}
+
 impl Place {
     /// That of a newcomer in this seat.
     pub(crate) fn of_seat(at: usize) -> Place {
@@ -72,12 +80,25 @@ impl Place {
             return false;
         }
         self.has_ticked = false;
-        self.stuck = if polled.has_moved() {
-            0
-        } else {
-            self.stuck.saturating_add(1)
-        };
+        self.stuck = after_tick(self.stuck, polled);
         self.stuck >= patience
+    }
+
+    /// Whether its line was to be closed for long enough: it has shut its write half for some ticks, or nothing of what waits
+    /// has left for this many.
+    pub(crate) fn is_late(&mut self, patience: u32) -> bool {
+        let Use::Closing(line, ticks) = &mut self.usage else {
+            return false;
+        };
+        let Some(polled) = line.stream() else {
+            return true;
+        };
+        if !polled.push() {
+            self.stuck = after_tick(self.stuck, polled);
+            return self.stuck >= patience;
+        }
+        *ticks = ticks.saturating_sub(1);
+        *ticks == 0
     }
 
     /// A tick has passed. Whether it is to be taken up: it was not since the one before, or it has bytes that wait.

@@ -25,6 +25,8 @@ pub(crate) struct Queue {
     round: usize,
     /// For how many ticks in a row nothing of what waits for room may leave.
     patience: u32,
+    /// A socket was closed since it was asked for.
+    freed: bool,
 }
 
 impl Queue {
@@ -40,6 +42,7 @@ impl Queue {
             turns: 0,
             round: 0,
             patience,
+            freed: false,
         })
     }
 
@@ -48,9 +51,9 @@ impl Queue {
         !self.waiting.is_empty()
     }
 
-    /// Whether there is room for one more socket: none if memory is refused.
-    pub(crate) fn has_room(&mut self) -> bool {
-        self.places.reserve(1).is_ok()
+    /// Makes room for one more socket.
+    pub(crate) fn make_room(&mut self) -> Result<(), AllocError> {
+        self.places.reserve(1)
     }
 
     /// A token for the socket of a newcomer in this seat, unless memory is refused or there is no such seat.
@@ -63,6 +66,7 @@ impl Queue {
 
     /// The socket with this token is not registered any more.
     pub(crate) fn remove(&mut self, token: usize) {
+        self.freed = true;
         let _gone = self.places.try_remove(token);
     }
 
@@ -74,9 +78,7 @@ impl Queue {
         let has_ended = event.is_read_closed() || event.is_error();
         place.is_ended = place.is_ended || has_ended;
         place.is_readable = place.is_readable || event.is_readable() || has_ended;
-        if place.is_readable || place.is_blocked {
-            self.push(token);
-        }
+        self.push(token);
     }
 
     /// The socket with this token waits to be taken up.
@@ -207,15 +209,33 @@ impl Queue {
 
     /// Whether the line with this token was to be closed for long enough.
     fn is_late(&mut self, token: usize) -> bool {
-        let Some(place) = self.places.get_mut(token) else {
-            return false;
-        };
-        match &mut place.usage {
-            Use::Seat(_) => false,
-            Use::Closing(_, ticks) => {
-                *ticks = ticks.saturating_sub(1);
-                *ticks == 0
+        let patience = self.patience;
+        match self.places.get_mut(token) {
+            Some(place) => place.is_late(patience),
+            None => false,
+        }
+    }
+
+    /// Forgets all that sit.
+    pub(crate) fn leave_seats(&mut self) {
+        for at in 0..self.tokens.len() {
+            if let Some(token) = self.token_of(at) {
+                if self.seat_of(token).is_some() {
+                    self.remove(token);
+                }
             }
         }
+    }
+
+    /// Whether no line is to be closed any more, and nobody sits.
+    pub(crate) fn is_empty(&self) -> bool {
+        self.places.len() == 0
+    }
+
+    /// Whether a socket was closed since this was asked the last time.
+    pub(crate) fn has_freed(&mut self) -> bool {
+        let freed = self.freed;
+        self.freed = false;
+        freed
     }
 }

@@ -27,6 +27,12 @@ const EVENTS: usize = 1_024;
 /// How many connections in a row may be lost between their arrival and their being accepted.
 const LOST_IN_A_ROW: u32 = 1_000;
 
+/// The shortest tick.
+const SHORTEST_TICK: Duration = Duration::from_millis(1);
+
+/// How many waits its end may take at the most.
+const LAST_WAITS: u32 = 1_000_000;
+
 /// The longest wait if a flag ends the server, in milliseconds.
 const FLAG_WAIT: u64 = 50;
 
@@ -62,6 +68,8 @@ pub struct SocketReactor<'a, R: Clock> {
     arrived: bool,
     // How many in a row were lost.
     lost: u32,
+    // The last accept found no descriptor or no memory.
+    is_short: bool,
     tick: Duration,
     last_tick: Option<Instant>,
     why: Option<io::Error>,
@@ -96,8 +104,9 @@ impl<'a, R: Net + Clock> SocketReactor<'a, R> {
             flag,
             arrived: true,
             lost: 0,
-            tick: numbers.tick,
-            last_tick: Instant::now(rt).ok(),
+            is_short: false,
+            tick: numbers.tick.max(SHORTEST_TICK),
+            last_tick: time_of(rt),
             why: None,
             told: History::new(),
         })
@@ -117,6 +126,20 @@ impl<R: Clock> SocketReactor<'_, R> {
         self.why
     }
 
+    /// Ends it: what is still held of connections that have ended is written, and they are closed, as long as their clients take
+    /// something. The seats of a server that goes on are closed at once.
+    pub fn end(self) {
+        let mut reactor = self;
+        reactor.queue.leave_seats();
+        for _wait in 0..LAST_WAITS {
+            if reactor.queue.is_empty() {
+                return;
+            }
+            reactor.gather();
+            let _none = reactor.queue.next();
+        }
+    }
+
     /// Whether no connection is accepted any more.
     fn is_over(&self) -> bool
         ensures left { IsFalse result → ¬ (self.now.left ≡ 0) }
@@ -134,7 +157,7 @@ impl<R: Clock> SocketReactor<'_, R> {
         if self.is_over() {
             return Next::NoneEver;
         }
-        if !self.queue.has_room() {
+        if self.queue.make_room().is_err() {
             return Next::NoneNow;
         }
         match self.listener.accept() {
@@ -171,7 +194,10 @@ impl<R: Clock> SocketReactor<'_, R> {
                 self.lost = 0;
                 Next::NoneNow
             }
-            Fault::Short => Next::NoneNow,
+            Fault::Short => {
+                self.is_short = true;
+                Next::NoneNow
+            }
             Fault::Lasting => {
                 self.why = Some(e);
                 Next::NoneEver
@@ -262,7 +288,7 @@ impl<R: Clock> SocketReactor<'_, R> {
     fn begin_tick(&mut self)
         ensures { (self.new.told ≡ self.old.told) × (self.new.left ≡ self.old.left) × (self.new.why ≡ self.old.why) }
     {
-        self.last_tick = Instant::now(self.clock).ok();
+        self.last_tick = time_of(self.clock);
         self.arrived = true;
         self.queue.tick();
     }
@@ -275,7 +301,22 @@ impl<R: Clock> SocketReactor<'_, R> {
             self.arrived = false;
             return Some(Ready::Arrivals);
         }
-        Some(Ready::Seat(self.queue.next()?))
+        if let Some(at) = self.queue.next() {
+            return Some(Ready::Seat(at));
+        }
+        if self.is_short && self.queue.has_freed() {
+            self.is_short = false;
+            return Some(Ready::Arrivals);
+        }
+        None
+    }
+}
+
+/// What time it is, if the clock tells.
+fn time_of<R: Clock>(clock: &R) -> Option<Instant> {
+    match Instant::now(clock) {
+        Ok(now) => Some(now),
+        Err(_) => None,
     }
 }
 
