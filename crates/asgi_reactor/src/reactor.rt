@@ -27,8 +27,8 @@ const EVENTS: usize = 1_024;
 /// How many connections in a row may be lost between their arrival and their being accepted.
 const LOST_IN_A_ROW: u32 = 1_000;
 
-/// The shortest tick.
-const SHORTEST_TICK: Duration = Duration::from_millis(1);
+/// The shortest tick, in milliseconds.
+const SHORTEST_TICK: u64 = 1;
 
 /// How many waits its end may take at the most.
 const LAST_WAITS: u32 = 1_000_000;
@@ -105,7 +105,7 @@ impl<'a, R: Net + Clock> SocketReactor<'a, R> {
             arrived: true,
             lost: 0,
             is_short: false,
-            tick: numbers.tick.max(SHORTEST_TICK),
+            tick: numbers.tick.max(Duration::from_millis(SHORTEST_TICK)),
             last_tick: time_of(rt),
             why: None,
             told: History::new(),

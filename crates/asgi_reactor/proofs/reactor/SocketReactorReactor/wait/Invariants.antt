@@ -1,0 +1,7 @@
+use Rattle.std.proofs.Common.{◌≡◌}
+use Rattle.asgi_reactor.proofs.reactor.SocketReactorReactor.wait.Given as goal
+
+abbrev pub invariant-loop-round : goal.invariant-loop-round
+invariant-loop-round g l = record {
+  told : l.self.told ≡ l.fn.self.told;
+}
