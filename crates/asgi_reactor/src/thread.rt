@@ -3,15 +3,21 @@ ghost use Rattle.std.specs.Prelude.{◌≡◌, IfOk};
 ghost use Rattle.asgi_many.specs.Serving.{ServesMany};
 
 use asgi_apps::Application;
-use asgi_conn::Host;
 use asgi_many::{Inline, Reactor, Report, Served, Teller, serve_many};
 use asgi_types::{Limits, State};
 use futures::task::{Doorbell, Solo};
+use std::alloc::AllocGlobal;
 use std::io;
+use std::random::RandomSource;
 
 /// Serves each connection that the reactor gives, as `serve_many` does, with each task run in the caller's thread: for
 /// applications that never block. The error is a want of memory, before the reactor was asked for anything.
-pub fn serve_in_thread<H: Host, A: Application, N: Reactor, K: Teller<Report>>(
+pub fn serve_in_thread<
+    H: AllocGlobal + RandomSource,
+    A: Application,
+    N: Reactor,
+    K: Teller<Report>,
+>(
     rt: &H,
     limits: &Limits,
     seats: usize,
