@@ -24,6 +24,8 @@ from servers import GET, GREETING, SECONDS, TOP, read_all, run
 PROGRAM = f"{TOP}/crates/asgi_many_example/out/asgi_many_example"
 CLIENTS, REQUESTS = 64, 20
 MEBIBYTE = servers.MEBIBYTE
+# How long the answer is that echoes a mebibyte, in blocks of the usual limits.
+ECHOED = 1_049_180
 
 
 class Server:
@@ -67,6 +69,15 @@ def sums(connections, requests):
 
 def post(body):
     return b"POST / HTTP/1.1\r\nHost: a\r\nConnection: close\r\nContent-Length: %d\r\n\r\n" % len(body) + body
+
+
+def narrow(server):
+    """A connection whose client holds little of what it has not read."""
+    line = socket.socket()
+    line.setsockopt(socket.SOL_SOCKET, socket.SO_RCVBUF, 1 << 16)
+    line.settimeout(SECONDS)
+    line.connect(("127.0.0.1", server.port))
+    return line
 
 
 def body_of(answer):
@@ -118,26 +129,30 @@ class Seats(unittest.TestCase):
             self.assertEqual(server.ended(), sums(8, 8))
 
     def test_clients_that_do_not_read_hold_up_no_other_and_get_all_in_the_end(self):
-        with Server("echo", 9) as server:
-            slow = [server.connect() for _ in range(4)]
-            for line in slow:
-                line.setsockopt(socket.SOL_SOCKET, socket.SO_RCVBUF, 4096)
-            sends = [threading.Thread(target=line.sendall, args=(post(MEBIBYTE),)) for line in slow]
+        # What the system takes for a client that does not read is some megabytes.
+        requests, clients = 12, 3
+        body = post(MEBIBYTE).replace(b"Connection: close\r\n", b"")
+        with Server("echo", clients + 5) as server:
+            slow = [narrow(server) for _ in range(clients)]
+            sends = [threading.Thread(target=line.sendall, args=(body * requests,)) for line in slow]
             for send in sends:
                 send.start()
-            time.sleep(0.5)
+            time.sleep(1)
+            self.assertEqual([send.is_alive() for send in sends], [True] * clients)
             began = time.monotonic()
             for _ in range(5):
                 with server.connect() as line:
                     line.sendall(post(b"abc"))
                     self.assertEqual(body_of(read_all(line))[1], b"abc")
             self.assertLess(time.monotonic() - began, 5)
-            for line in slow:
-                self.assertEqual(body_of(read_all(line))[1], MEBIBYTE)
-                line.close()
-            for send in sends:
+            one = read_exactly(slow[0], ECHOED)
+            self.assertEqual(body_of(one)[1], MEBIBYTE)
+            for line, rest in zip(slow, (requests - 1, requests, requests)):
+                self.assertEqual(read_exactly(line, rest * len(one)), one * rest)
+            for send, line in zip(sends, slow):
                 send.join()
-            self.assertEqual(server.ended(), sums(9, 9))
+                line.close()
+            self.assertEqual(server.ended(), sums(clients + 5, clients * requests + 5))
 
     def test_a_thousand_silent_clients_and_one_that_asks(self):
         silent = 1000
@@ -241,7 +256,7 @@ class Seats(unittest.TestCase):
     def test_a_port_in_use(self):
         with Server("hello", 1) as server:
             words = [PROGRAM, f"127.0.0.1:{server.port}", "1", "1", "hello"]
-            self.assertEqual(run(words), (5, b"", b""))
+            self.assertEqual(run(words), (5, b"", ""))
             self.assertEqual(greeted(server), 1)
             self.assertEqual(server.ended(), sums(1, 1))
 
