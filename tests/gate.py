@@ -42,6 +42,7 @@ PARTS = [
     ("tests from outside", ["python3", "tests/examples.py"]),
     ("tests from outside", ["python3", "tests/faults.py", PROGRAM]),
     ("tests from outside", ["python3", "tests/many.py", PROGRAM]),
+    ("tests from outside", ["python3", "tests/seats.py"]),
     ("tests from outside", ["python3", "tests/keys.py", KEYS]),
     ("counts of instructions", ["python3", "tests/instructions.py", PROGRAM]),
     ("self-tests of the gate's scripts", ["python3", "tests/fuzz.py", "--self-test", PROGRAM]),

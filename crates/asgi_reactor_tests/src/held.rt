@@ -120,7 +120,12 @@ fn waits_behind(alloc: Global) -> io::Result<bool> {
     for _push in 0..9u32 {
         let _pushed = held.push(&mut stream);
     }
-    Ok(first == 6 && second == 3 && held.is_empty() && stream.written.as_slice() == b"abcdefghi")
+    Ok(
+        first == 6
+            && second == 3
+            && held.is_empty()
+            && stream.written.as_slice() == b"abcdefghi".as_slice(),
+    )
 }
 
 #[test]
@@ -139,7 +144,7 @@ fn stays(alloc: Global) -> io::Result<bool> {
     let failed = held.write(&mut stream, b"g").is_err() && held.push(&mut stream).is_err();
     stream.fails = false;
     let pushed = held.push(&mut stream)?;
-    Ok(first == 6 && failed && pushed && stream.written.as_slice() == b"abcdef")
+    Ok(first == 6 && failed && pushed && stream.written.as_slice() == b"abcdef".as_slice())
 }
 
 #[test]
