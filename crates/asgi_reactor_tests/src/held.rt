@@ -60,11 +60,11 @@ const ROWS: &[Row] = &[
     (1_000, 1, 100, 18),
 ];
 
-/// The bytes of the writes are 0, 1, 2 .. in order.
+/// The bytes of the writes are 0, 1, 2 .. 250, and so on.
 fn bytes_from(alloc: Global, first: usize, many: usize) -> Result<Vec<u8>, AllocError> {
     let mut bytes = Vec::with_capacity(alloc, many)?;
     for at in 0..many {
-        bytes.push(first.wrapping_add(at) as u8)?;
+        bytes.push((first.wrapping_add(at) % 251) as u8)?;
     }
     Ok(bytes)
 }
