@@ -1,5 +1,5 @@
 -- What was taken after a write behind bytes that wait.
-use Rattle.std.proofs.Common.{◌≡◌, ℕ, zero, suc, ◌+◌, List, [], ◌∷◌, ◌++◌, Option, Some, None, refl, sym, ap, ◌∙◌, take, drop, append_assoc, append-nil, arith}
+use Rattle.std.proofs.Common.{◌≡◌, ℕ, zero, suc, ◌+◌, List, [], ◌∷◌, ◌++◌, length, Option, Some, None, refl, sym, ap, ◌∙◌, take, drop, append_assoc, append-nil, arith}
 use Rattle.std.specs.Io.KnownBytes.{Appends, append_known}
 use Rattle.asgi_reactor.specs.Holding.{GoesOut}
 
@@ -18,6 +18,11 @@ take_more : {X : Type 0} (m n : ℕ) (xs : List X) → take (m + n) xs ≡ take 
 take_more zero n xs = ap (λ k. take k xs) (none_more n)
 take_more (suc m) n [] = take_none (suc m + n) ∙ sym (take_none n)
 take_more (suc m) n (x ∷ xs) = ap (λ k. take k (x ∷ xs)) (one_more m n) ∙ ap (λ ys. x ∷ ys) (take_more m n xs)
+
+-- a list of no length has no items
+pub none_left : (xs : List ℕ) → length xs ≡ 0 → xs ≡ []
+none_left [] none = refl
+none_left (x ∷ xs) none = absurd (omega (arith, none))
 
 -- nothing went out
 pub nothing_goes : (written : Option (List ℕ)) (waits : List ℕ) → GoesOut written written waits waits

@@ -1,5 +1,5 @@
 //! What a stream has not taken yet.
-ghost use Rattle.std.specs.Prelude.{◌≡◌, ◌≤◌, ◌++◌, [], ℕ, List, IsTrue, IfOk, OnOk, OnErr, MatchResult, length, take, vec_len, drop, ◌+◌};
+ghost use Rattle.std.specs.Prelude.{◌≡◌, ◌↔◌, ◌≤◌, ◌++◌, [], ℕ, List, IsTrue, IfOk, OnOk, OnErr, MatchResult, length, take, vec_len, drop, ◌+◌};
 ghost use Rattle.std.specs.Io.{WritesAtMost};
 ghost use Rattle.std.specs.Io.KnownBytes.{WriteAppends};
 ghost use Rattle.asgi_reactor.specs.Holding.{GoesOut, taken, waiting};
@@ -39,9 +39,9 @@ impl Held {
 
     /// Whether nothing waits.
     pub fn is_empty(&self) -> bool
-        ensures { IsTrue result → waiting self.now.buf.items self.now.start ≡ [] }
+        ensures { IsTrue result ↔ (length (waiting self.now.buf.items self.now.start) ≡ 0) }
     {
-        self.start >= self.buf.len()
+        self.len() == 0
     }
 
     /// These bytes wait behind the others. If memory is refused, nothing changes.

@@ -333,7 +333,11 @@ impl<R: Clock> Reactor for SocketReactor<'_, R> {
 
     ghost answers = { λ r. r.told.items };
 
-    fn try_next(&mut self, at: usize) -> Next<PolledLine> {
+    fn try_next(&mut self, at: usize) -> Next<PolledLine>
+        ensures told { self.new.told.items ≡ self.old.told.items ++ result ∷ [] }
+        ensures some { IfArrived result (λ _. (self.old.left ≡ self.new.left + 1) × (self.new.why ≡ None)) }
+        ensures none { IsNone result → self.new.left ≡ self.old.left }
+    {
         let next = self.accept(at);
         self.told = History::with(&self.told, &next);
         next
