@@ -246,6 +246,31 @@ class Library(unittest.TestCase):
             self.assertEqual(sorted(told[1:]), [f"connection {number}: 1 requests, finished" for number in range(1, 6)])
             self.assertEqual(status, 0)
 
+    def test_clients_in_seats_share_one_thread(self):
+        with Own("seats", count=64, workers=64) as own:
+            port = own.port()
+            lines = [socket.create_connection(("127.0.0.1", port), timeout=SECONDS) for _ in range(64)]
+            for line in reversed(lines):
+                line.sendall(GET)
+                self.assertTrue(line.recv(1 << 16).endswith(b"hello\n\r\n0\r\n\r\n"))
+            self.assertEqual(len(os.listdir(f"/proc/{own.ran.pid}/task")), 1)
+            for line in lines:
+                line.close()
+            told, status = own.ended()
+            self.assertEqual(sorted(told[1:]), sorted(f"connection {number}: 1 requests, finished" for number in range(1, 65)))
+            self.assertEqual(status, 0)
+
+    def test_more_clients_than_seats_wait(self):
+        with Own("seats", count=3, workers=1) as own:
+            port = own.port()
+            first = socket.create_connection(("127.0.0.1", port), timeout=SECONDS)
+            first.sendall(GET)
+            self.assertTrue(first.recv(1 << 16).endswith(b"hello\n\r\n0\r\n\r\n"))
+            self.assertTrue(self.is_left(port))
+            first.close()
+            self.assertEqual(self.get(port, b"/"), b"hello\n")
+            self.assertEqual(own.ended()[1], 0)
+
     def test_all_addresses_where_that_is_named(self):
         with Own("hello", "0.0.0.0:0") as own:
             self.assertEqual(self.get(own.port(), b"/"), b"hello\n")
@@ -263,7 +288,7 @@ class Library(unittest.TestCase):
     def test_a_port_in_use(self):
         with socket.create_server(("127.0.0.1", 0)) as taken:
             address = f"127.0.0.1:{taken.getsockname()[1]}"
-            for app in ("hello", "nostart"):
+            for app in ("hello", "nostart", "seats"):
                 with self.subTest(app=app):
                     why = system_error(errno.EADDRINUSE)
                     self.refused(f"cannot listen on {address}: the port is in use: {why}", 5, app, address=address)
@@ -291,18 +316,21 @@ class Library(unittest.TestCase):
                 self.refused(f"workers: {workers} is not a number from 1 to 8", 2, workers=workers)
 
     def test_a_connection_is_told_with_its_client(self):
-        with Own("hello") as own:
-            with socket.create_connection(("127.0.0.1", own.port()), timeout=SECONDS) as line:
-                client = line.getsockname()[1]
-                line.sendall(b"GET / HTTP/1.0\r\n\r\n")
-                read_all(line)
-            errors = own.ran.communicate(timeout=SECONDS)[1].decode()
-            self.assertIn(f"connection 1: 127.0.0.1 port {client}, 1 requests, finished\n", errors)
+        for app in ("hello", "seats"):
+            with self.subTest(app=app), Own(app) as own:
+                with socket.create_connection(("127.0.0.1", own.port()), timeout=SECONDS) as line:
+                    client = line.getsockname()[1]
+                    line.sendall(b"GET / HTTP/1.0\r\n\r\n")
+                    read_all(line)
+                errors = own.ran.communicate(timeout=SECONDS)[1].decode()
+                self.assertIn(f"connection 1: 127.0.0.1 port {client}, 1 requests, finished\n", errors)
 
     def test_a_start_that_fails(self):
-        port = free_port()
-        self.refused("startup failed: no table", 3, "nostart", has_begun=True, address=f"127.0.0.1:{port}")
-        self.assertFalse(listens(port))
+        for app in ("nostart", "seatsnostart"):
+            with self.subTest(app=app):
+                port = free_port()
+                self.refused("startup failed: no table", 3, app, has_begun=True, address=f"127.0.0.1:{port}")
+                self.assertFalse(listens(port))
 
     def test_a_start_that_is_not_answered(self):
         self.refused("startup failed: no answer", 3, "silentstart", has_begun=True)
@@ -333,13 +361,19 @@ class Library(unittest.TestCase):
             self.assertEqual((sorted(told[1:]), status), (["connection 1: 1 requests, refused 500", "connection 2: 1 requests, finished"], 0))
 
     def test_a_stop_that_fails(self):
-        with Own("nostop") as own:
-            self.get(own.port(), b"/")
-            told, status = own.ended()
-            self.assertEqual((told[-2:], status), (["connection 1: 1 requests, finished", "shutdown failed: still busy"], 4))
+        for app in ("nostop", "seatsnostop"):
+            with self.subTest(app=app), Own(app) as own:
+                self.get(own.port(), b"/")
+                told, status = own.ended()
+                self.assertEqual((told[-2:], status), (["connection 1: 1 requests, finished", "shutdown failed: still busy"], 4))
 
     def test_a_stop_that_the_application_pulls(self):
-        with Own("ends", count=1000) as own:
+        for app in ("ends", "seatsends"):
+            with self.subTest(app=app):
+                self.is_stopped_by_its_application(app)
+
+    def is_stopped_by_its_application(self, app):
+        with Own(app, count=1000) as own:
             port = own.port()
             begun = socket.create_connection(("127.0.0.1", port), timeout=SECONDS)
             begun.sendall(b"GET /first HTTP/1.1\r\nHost: a\r\n\r\n")

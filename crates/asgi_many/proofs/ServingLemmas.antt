@@ -11,11 +11,11 @@ use Rattle.asgi_pipes.specs.declared.ends.ConnEnd as conn_end
 use Rattle.asgi_ws.specs.Lines.{LineState}
 use Rattle.asgi_apps.specs.Promises.{Promise}
 use Rattle.asgi_desk.specs.Told.{Told}
-use Rattle.asgi_conversation.specs.declared.report.Report.{Report}
 use Rattle.asgi_run.specs.declared.runner.AppSide.{AppSide}
 use Rattle.slab.specs.Slab.{get}
 use Rattle.asgi_many.specs.declared.reactor.Next.{Next}
 use Rattle.asgi_many.specs.declared.reactor.Next.TheVariants.{Arrived, NoneNow, NoneEver}
+use Rattle.asgi_many.specs.declared.seat.Departure.{Departure}
 use Rattle.asgi_many.specs.declared.seat.Ended.{Ended}
 use Rattle.asgi_many.specs.declared.seat.Newcomer.{Newcomer}
 use Rattle.asgi_many.specs.declared.serving.Served.{Served}
@@ -24,7 +24,7 @@ use Rattle.asgi_many.specs.declared.table.Table.{Table}
 use Rattle.asgi_many.specs.declared.table.Turned.{Turned}
 use Rattle.asgi_many.specs.declared.table.Turned.TheVariants.{NoOne, Moved, Idle, Over}
 use Rattle.asgi_many.specs.Seats.{KeepsEnds}
-use Rattle.asgi_many.specs.Serving.{Adds, Going, ServesMany, Sits, came_in, end_number, report_of}
+use Rattle.asgi_many.specs.Serving.{Adds, Going, ServesMany, Sits, came_in, departure_of, end_number, told_of}
 use Rattle.asgi_many.specs.Standing.{Holds, IsAt, IsEmpty, IsServed, number_of}
 use Rattle.asgi_many.specs.Turns.{ended_after}
 use Rattle.asgi_many.proofs.EndLemmas as ended
@@ -49,9 +49,9 @@ came_no_more (NoneNow ∷ answers) = came_no_more answers
 came_no_more (NoneEver ∷ answers) = came_no_more answers
 
 -- one more report was told
-told_one : {K L : Type 0} (tells : K → K → ℕ → Report → Type 0) (was mid is : K) (ends : List (Ended L)) (end : Ended L)
-    → Told tells was mid (map report_of ends) → tells mid is (end.number + 1) end.report → Told tells was is (map report_of (ends ++ end ∷ []))
-told_one tells was mid is [] end before one = (is, subst (λ (t : _). tells t is (end.number + 1) end.report) before one, refl)
+told_one : {K L : Type 0} (tells : K → K → ℕ → Departure → Type 0) (was mid is : K) (ends : List (Ended L)) (end : Ended L)
+    → Told tells was mid (map told_of ends) → tells mid is (end.number + 1) (departure_of end) → Told tells was is (map told_of (ends ++ end ∷ []))
+told_one tells was mid is [] end before one = (is, subst (λ (t : _). tells t is (end.number + 1) (departure_of end)) before one, refl)
 told_one tells was mid is (first ∷ ends) end (next, this, rest) one = (next, this, told_one tells next mid is ends end rest one)
 
 is_too_long : Served → Type 0
@@ -71,12 +71,12 @@ module _ {T C E X L : Type 0} (answers_of : T → List Incoming → List Outgoin
   abbrev HoldsNow : List (Newcomer L) → Table X L → List (Option (Ended L)) → Type 0
   HoldsNow came table places = Holds answers_of conns app_ends conn began promise line_state state came table places
 
-  abbrev GoingNow : {K : Type 0} → (K → K → ℕ → Report → Type 0) → List (Next L) → List (Next L) → K → K → Table X L → Type 0
+  abbrev GoingNow : {K : Type 0} → (K → K → ℕ → Departure → Type 0) → List (Next L) → List (Next L) → K → K → Table X L → Type 0
   GoingNow tells asked_old asked_now teller_old teller_now table = Going answers_of conns app_ends conn began promise line_state limits state tells asked_old asked_now teller_old teller_now table
 
   -- ---- it begins
 
-  pub begins : {K : Type 0} (tells : K → K → ℕ → Report → Type 0) (asked : List (Next L)) (teller : K) (table : Table X L) → table.limits ≡ limits → HoldsNow [] table []
+  pub begins : {K : Type 0} (tells : K → K → ℕ → Departure → Type 0) (asked : List (Next L)) (teller : K) (table : Table X L) → table.limits ≡ limits → HoldsNow [] table []
       → GoingNow tells asked asked teller teller table
   begins tells asked teller table limited holds = record {
     places = [];
@@ -127,7 +127,7 @@ module _ {T C E X L : Type 0} (answers_of : T → List Incoming → List Outgoin
   keeps_more places more ends (inl same) keeps = rw same keeps
   keeps_more places more ends (inr one) keeps = rw one (ended.comes end_number places ends keeps)
 
-  pub takes_in : {K : Type 0} (tells : K → K → ℕ → Report → Type 0) (asked_old asked_now asked_new : List (Next L)) (teller_old teller_now : K) (old new : Table X L)
+  pub takes_in : {K : Type 0} (tells : K → K → ℕ → Departure → Type 0) (asked_old asked_now asked_new : List (Next L)) (teller_old teller_now : K) (old new : Table X L)
       → ((places : List (Option (Ended L))) → SitsNow asked_old asked_now places old → (more : List (Option (Ended L))) × Adds places more × SitsNow asked_old asked_new more new)
       → GoingNow tells asked_old asked_now teller_old teller_now old → GoingNow tells asked_old asked_new teller_old teller_now new
   takes_in tells asked_old asked_now asked_new teller_old teller_now old new taken going =
@@ -141,7 +141,7 @@ module _ {T C E X L : Type 0} (answers_of : T → List Incoming → List Outgoin
 
   -- ---- one goes on
 
-  pub goes_on : {K : Type 0} (tells : K → K → ℕ → Report → Type 0) (asked_old asked_now asked_new : List (Next L)) (teller_old teller_now : K) (old new : Table X L)
+  pub goes_on : {K : Type 0} (tells : K → K → ℕ → Departure → Type 0) (asked_old asked_now asked_new : List (Next L)) (teller_old teller_now : K) (old new : Table X L)
       → asked_new ≡ asked_now → new.limits ≡ old.limits
       → ((came : List (Newcomer L)) (places : List (Option (Ended L))) → HoldsNow came old places → HoldsNow came new places)
       → GoingNow tells asked_old asked_now teller_old teller_now old → GoingNow tells asked_old asked_new teller_old teller_now new
@@ -158,8 +158,8 @@ module _ {T C E X L : Type 0} (answers_of : T → List Incoming → List Outgoin
     told = going.told;
   }
 
-  pub ends_one : {K : Type 0} (tells : K → K → ℕ → Report → Type 0) (asked_old asked_now asked_new : List (Next L)) (teller_old teller_now teller_new : K) (old new : Table X L) (end : Ended L)
-      → asked_new ≡ asked_now → new.limits ≡ old.limits → tells teller_now teller_new (end.number + 1) end.report
+  pub ends_one : {K : Type 0} (tells : K → K → ℕ → Departure → Type 0) (asked_old asked_now asked_new : List (Next L)) (teller_old teller_now teller_new : K) (old new : Table X L) (end : Ended L)
+      → asked_new ≡ asked_now → new.limits ≡ old.limits → tells teller_now teller_new (end.number + 1) (departure_of end)
       → ((came : List (Newcomer L)) (places : List (Option (Ended L))) → HoldsNow came old places → HoldsNow came new (slice_set places end.number (Some end)))
       → ((came : List (Newcomer L)) (places : List (Option (Ended L))) → HoldsNow came old places → slice_get places end.number ≡ Some None)
       → GoingNow tells asked_old asked_now teller_old teller_now old → GoingNow tells asked_old asked_new teller_old teller_new new
@@ -178,7 +178,7 @@ module _ {T C E X L : Type 0} (answers_of : T → List Incoming → List Outgoin
 
   -- ---- it ends
 
-  pub serves : {K : Type 0} (tells : K → K → ℕ → Report → Type 0) (asked_old asked_now : List (Next L)) (teller_old teller_now : K) (table : Table X L) (how : Served)
+  pub serves : {K : Type 0} (tells : K → K → ℕ → Departure → Type 0) (asked_old asked_now : List (Next L)) (teller_old teller_now : K) (table : Table X L) (how : Served)
       → (how ≡ All → IsEmpty table) → GoingNow tells asked_old asked_now teller_old teller_now table
       → ServesMany tells promise line_state limits state asked_old asked_now teller_old teller_now how
   serves tells asked_old asked_now teller_old teller_now table how empty going =

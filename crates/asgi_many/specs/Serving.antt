@@ -10,10 +10,10 @@ use Rattle.asgi_pipes.specs.declared.ends.ConnEnd as conn_end
 use Rattle.asgi_ws.specs.Lines.{LineState}
 use Rattle.asgi_apps.specs.Promises.{Promise}
 use Rattle.asgi_desk.specs.Told.{Told}
-use Rattle.asgi_conversation.specs.declared.report.Report.{Report}
 use Rattle.asgi_run.specs.declared.runner.AppSide.{AppSide}
 use Rattle.asgi_many.specs.declared.reactor.Next.{Next}
 use Rattle.asgi_many.specs.declared.reactor.Next.TheVariants.{Arrived, NoneNow, NoneEver}
+use Rattle.asgi_many.specs.declared.seat.Departure.{Departure}
 use Rattle.asgi_many.specs.declared.seat.Ended.{Ended}
 use Rattle.asgi_many.specs.declared.seat.Newcomer.{Newcomer}
 use Rattle.asgi_many.specs.declared.serving.Served.{Served}
@@ -32,12 +32,16 @@ came_in (NoneEver ∷ more) = came_in more
 abbrev pub end_number : {L : Type 0} → Ended L → ℕ
 end_number end = end.number
 
--- what is told of an end: its report, under the number of its arrival, 1 upwards
-abbrev pub report_of : {L : Type 0} → Ended L → ℕ × Report
-report_of end = (end.number + 1, end.report)
+-- what is told of an end: its report and its client
+abbrev pub departure_of : {L : Type 0} → Ended L → Departure
+departure_of end = record { report = end.report; client = end.client }
+
+-- the same under the number of its arrival, 1 upwards
+abbrev pub told_of : {L : Type 0} → Ended L → ℕ × Departure
+told_of end = (end.number + 1, departure_of end)
 
 -- From what was asked of the reactor to what is, and from the teller as it was to the teller as it is.
-pub record ServesMany {K L : Type 0} (tells : K → K → ℕ → Report → Type 0) (promise : Promise) (line_state : L → LineState) (limits : Limits)
+pub record ServesMany {K L : Type 0} (tells : K → K → ℕ → Departure → Type 0) (promise : Promise) (line_state : L → LineState) (limits : Limits)
     (state : List (List ℕ × StateValue)) (asked_old asked_new : List (Next L)) (teller_old teller_new : K) (how : Served) : Type 0 where
   -- how the reactor answered when it was asked for connections
   pub answers : List (Next L)
@@ -45,8 +49,8 @@ pub record ServesMany {K L : Type 0} (tells : K → K → ℕ → Report → Typ
   -- the connections that have ended, in the order in which they did: of each that came one at the most, served as is promised of its own line
   pub ends : List (Ended L)
   pub served : EndsOf end_number (IsServed promise line_state limits state) (came_in answers) ends
-  -- the teller got the report of each of them once, as it ended
-  pub told : Told tells teller_old teller_new (map report_of ends)
+  -- the teller got the report of each of them and its client once, as it ended
+  pub told : Told tells teller_old teller_new (map told_of ends)
   -- if it did not end too soon, each that came has ended
   pub all : how ≡ All → (k : ℕ) (one : Newcomer L) → slice_get (came_in answers) k ≡ Some one
       → (i : ℕ) × (end : Ended L) × (slice_get ends i ≡ Some end) × (end.number ≡ k)
@@ -67,9 +71,9 @@ module _ {T C E X L : Type 0} (answers_of : T → List Incoming → List Outgoin
     pub holds : Holds answers_of conns app_ends conn began promise line_state state (came_in answers) table places
 
   -- A server stands there between two steps.
-  pub record Going {K : Type 0} (tells : K → K → ℕ → Report → Type 0) (asked_old asked_now : List (Next L)) (teller_old teller_now : K) (table : Table X L) : Type 0 where
+  pub record Going {K : Type 0} (tells : K → K → ℕ → Departure → Type 0) (asked_old asked_now : List (Next L)) (teller_old teller_now : K) (table : Table X L) : Type 0 where
     pub places : List (Option (Ended L))
     pub ends : List (Ended L)
     pub sits : Sits asked_old asked_now places table
     pub keeps : KeepsEnds end_number places ends
-    pub told : Told tells teller_old teller_now (map report_of ends)
+    pub told : Told tells teller_old teller_now (map told_of ends)

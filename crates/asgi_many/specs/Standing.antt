@@ -24,10 +24,10 @@ abbrev pub number_of : {X L : Type 0} → Seat X L → ℕ
 number_of seat = seat.number
 
 -- The connection that came was served, with its client, its server and a copy of the state: from its line as it came, to the line as it
--- is handed back, with the pauses of its own seat.
+-- is handed back, with the pauses of its own seat. Its client is handed back as it came.
 abbrev pub IsServed : {L : Type 0} → Promise → (L → LineState) → Limits → List (List ℕ × StateValue) → Newcomer L → Ended L → Type 0
 IsServed promise line_state limits state one end =
-    Serves promise limits one.client one.server state (line_state one.line) (line_state end.line) 0 end.pauses end.report
+    (end.client ≡ one.client) × Serves promise limits one.client one.server state (line_state one.line) (line_state end.line) 0 end.pauses end.report
 
 -- nobody sits there
 abbrev pub IsEmpty : {X L : Type 0} → Table X L → Type 0

@@ -29,8 +29,18 @@ pub struct Ended<L> {
     pub report: Report,
     /// How many pauses were made for it.
     pub pauses: u64,
+    /// Its client, if it is known.
+    pub client: Option<Peer>,
     /// Its line, which the caller closes.
     pub line: L,
+}
+
+/// What is told of a connection that has ended.
+#[derive(Drop)]
+pub struct Departure {
+    pub report: Report,
+    /// Its client, if it is known.
+    pub client: Option<Peer>,
 }
 
 /// A connection in a table, with all that is its own.
@@ -119,13 +129,14 @@ impl<X, L: Line> Seat<X, L> {
         ensures number { result.number ≡ self.number }
         ensures report { result.report ≡ report }
         ensures pauses { result.pauses ≡ self.pause.count }
+        ensures client { result.client ≡ self.client }
         ensures line { result.line ≡ self.line }
     {
         let Seat {
             number,
             connection,
             line,
-            client: _,
+            client,
             server: _,
             pause,
         } = self;
@@ -134,6 +145,7 @@ impl<X, L: Line> Seat<X, L> {
             number,
             report,
             pauses: pause.paused(),
+            client,
             line,
         }
     }

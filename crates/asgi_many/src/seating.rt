@@ -69,9 +69,13 @@ impl<X, L: Line> Table<X, L> {
 
     /// Whether a newcomer gets a seat: one is free, and fewer than 2^64 - 1 have come.
     pub fn has_seat(&self) -> bool
-        ensures { IsTrue result → ¬ (IsFull self.now) × ¬ (self.now.came ≡ 2 ^ 64 - 1) }
+        ensures some { IsTrue result → ¬ (IsFull self.now) × ¬ (self.now.came ≡ 2 ^ 64 - 1) }
+        ensures none { IsFalse result → IsFull self.now ⊎ (self.now.came ≡ 2 ^ 64 - 1) }
     {
-        !self.is_full() && self.came < u64::MAX
+        if self.is_full() {
+            return false;
+        }
+        self.came < u64::MAX
     }
 
     /// The line of the connection in that seat, if there is one.
@@ -163,7 +167,7 @@ impl<X, L: Line> Table<X, L> {
     fn free(&mut self, at: usize, report: Report) -> Ended<L>
         requires { IsSomeAnd (get self.old.seats at) (λ seat. IsReportOf seat.connection report) }
         ensures end { IsSomeAnd (get self.old.seats at) (λ seat. (result.number ≡ seat.number) × (result.report ≡ report)
-            × (result.pauses ≡ seat.pause.count) × (result.line ≡ seat.line)) }
+            × (result.pauses ≡ seat.pause.count) × (result.line ≡ seat.line) × (result.client ≡ seat.client)) }
         ensures free { get self.new.seats at ≡ None }
         ensures others { (other : ℕ) → other ≢ at → get self.new.seats other ≡ get self.old.seats other }
         ensures same { (self.new.limits ≡ self.old.limits) × (self.new.places ≡ self.old.places) × (self.new.came ≡ self.old.came) }

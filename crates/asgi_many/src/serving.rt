@@ -2,14 +2,14 @@
 ghost use Rattle.std.specs.Prelude.{◌≡◌, ◌+◌, ◌-◌, ◌^◌, ◌<◌, ◌++◌, ◌∷◌, [], ℕ, List, Option, IfOk, IsErr, IsTrue, slice_get};
 ghost use Rattle.asgi_many.specs.declared.seat.Ended.{Ended};
 ghost use Rattle.asgi_many.specs.Standing.{IsFull};
-ghost use Rattle.asgi_many.specs.Serving.{Adds, Going, ServesMany, Sits};
+ghost use Rattle.asgi_many.specs.Serving.{Adds, Going, ServesMany, Sits, departure_of};
 
 use crate::intake::Intake;
 use crate::reactor::{Next, Reactor, Ready};
-use crate::seat::Ended;
+use crate::seat::{Departure, Ended};
 use crate::table::{Table, Turned};
 use asgi_apps::{Application, Calls};
-use asgi_conn::{Report, Runner};
+use asgi_conn::Runner;
 use asgi_desk::Teller;
 use asgi_types::{Limits, State};
 use std::alloc::{AllocError, Global};
@@ -24,7 +24,8 @@ pub enum Served {
 }
 
 /// Serves each connection that the reactor gives, at most so many at a time, each turn by turn and whenever the reactor names its
-/// seat. The teller gets each report once, as its connection ends, under the number of its arrival, 1 upwards.
+/// seat. The teller gets the report of each and its client once, as the connection ends, under the number of its arrival, 1
+/// upwards.
 ///
 /// The memory of the table is taken first, and if it is refused the reactor is not asked. While each seat is taken none is asked for,
 /// so none that came is sent away. A line is given back to the reactor once its connection has ended.
@@ -33,7 +34,7 @@ pub fn serve_many<
     A: Application,
     N: Reactor,
     U: Runner<A::Task, Exchange = X>,
-    K: Teller<Report>,
+    K: Teller<Departure>,
 >(
     alloc: Global,
     limits: &Limits,
@@ -63,7 +64,13 @@ pub fn serve_many<
 }
 
 /// Takes in the next connection, or goes on with one that may.
-fn step<X: Drop, A: Application, N: Reactor, U: Runner<A::Task, Exchange = X>, K: Teller<Report>>(
+fn step<
+    X: Drop,
+    A: Application,
+    N: Reactor,
+    U: Runner<A::Task, Exchange = X>,
+    K: Teller<Departure>,
+>(
     table: &mut Table<X, N::L>,
     intake: Intake,
     state: &State,
@@ -120,7 +127,13 @@ fn take_in<X: Drop, A: Application, N: Reactor, U: Runner<A::Task, Exchange = X>
 }
 
 /// Goes on with the connection in this seat, if there is one that may.
-fn go_on<X: Drop, A: Application, N: Reactor, U: Runner<A::Task, Exchange = X>, K: Teller<Report>>(
+fn go_on<
+    X: Drop,
+    A: Application,
+    N: Reactor,
+    U: Runner<A::Task, Exchange = X>,
+    K: Teller<Departure>,
+>(
     table: &mut Table<X, N::L>,
     at: usize,
     state: &State,
@@ -154,11 +167,24 @@ fn go_on<X: Drop, A: Application, N: Reactor, U: Runner<A::Task, Exchange = X>, 
 }
 
 /// Tells of a connection that has ended, and has its line closed.
-fn over<N: Reactor, K: Teller<Report>>(at: usize, end: Ended<N::L>, reactor: &mut N, teller: &mut K)
+fn over<N: Reactor, K: Teller<Departure>>(
+    at: usize,
+    end: Ended<N::L>,
+    reactor: &mut N,
+    teller: &mut K,
+)
     requires { end.number < 2 ^ 64 - 1 }
-    ensures told { K.tells teller.old teller.new (end.number + 1) end.report }
+    ensures told { K.tells teller.old teller.new (end.number + 1) (departure_of end) }
     ensures same { N.answers reactor.new ≡ N.answers reactor.old }
 {
-    teller.tell(end.number + 1, &end.report);
-    reactor.close(at, end.line);
+    let Ended {
+        number,
+        report,
+        pauses: _,
+        client,
+        line,
+    } = end;
+    let departure = Departure { report, client };
+    teller.tell(number + 1, &departure);
+    reactor.close(at, line);
 }

@@ -1,5 +1,5 @@
 //! What is told of connections.
-use asgi_many::{Report, Teller};
+use asgi_many::{Departure, Teller};
 
 /// How many connections have ended, and how many requests they had.
 #[derive(Drop)]
@@ -18,11 +18,11 @@ impl Sums {
     }
 }
 
-impl Teller<Report> for Sums {
+impl Teller<Departure> for Sums {
     ghost tells = { λ _ _ _ _. Unit {0} };
 
-    fn tell(&mut self, _number: u64, report: &Report) {
+    fn tell(&mut self, _number: u64, departure: &Departure) {
         self.connections = self.connections.saturating_add(1);
-        self.requests = self.requests.saturating_add(report.exchanges);
+        self.requests = self.requests.saturating_add(departure.report.exchanges);
     }
 }

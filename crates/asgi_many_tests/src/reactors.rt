@@ -9,7 +9,7 @@ use asgi_apps::{AppTask, Application, Echo, Hello};
 use asgi_conn::{Host, Inline};
 use asgi_fakes::{Way, serve, text_of};
 use asgi_io::History;
-use asgi_many::{Newcomer, Next, Reactor, Ready, Report, Served, Teller, serve_many};
+use asgi_many::{Departure, Newcomer, Next, Reactor, Ready, Report, Served, Teller, serve_many};
 use asgi_types::{Limits, State};
 use futures::task::{Doorbell, Solo};
 use std::alloc::AllocError;
@@ -96,11 +96,11 @@ struct Reports {
     list: Vec<(u64, Report)>,
 }
 
-impl Teller<Report> for Reports {
+impl Teller<Departure> for Reports {
     ghost tells = { λ _ _ _ _. Unit {0} };
 
-    fn tell(&mut self, number: u64, report: &Report) {
-        let _kept = self.list.push((number, *report));
+    fn tell(&mut self, number: u64, departure: &Departure) {
+        let _kept = self.list.push((number, departure.report));
     }
 }
 

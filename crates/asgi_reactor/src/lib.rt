@@ -11,7 +11,7 @@ mod queue;
 mod reactor;
 mod thread;
 
-pub use asgi_many::{Next, Reactor, Ready, Served, Teller, serve_many};
+pub use asgi_many::{Departure, Next, Reactor, Ready, Served, Teller, serve_many};
 pub use held::Held;
 pub use polled::Polled;
 pub use reactor::{Numbers, PolledLine, SocketReactor};

@@ -3,7 +3,7 @@ ghost use Rattle.std.specs.Prelude.{◌≡◌, IfOk, IsErr};
 ghost use Rattle.asgi_many.specs.Serving.{ServesMany};
 
 use asgi_apps::Application;
-use asgi_many::{Inline, Reactor, Report, Served, Teller, serve_many};
+use asgi_many::{Departure, Inline, Reactor, Served, Teller, serve_many};
 use asgi_types::{Limits, State};
 use futures::task::{Doorbell, Solo};
 use std::alloc::AllocGlobal;
@@ -16,7 +16,7 @@ pub fn serve_in_thread<
     H: AllocGlobal + RandomSource,
     A: Application,
     N: Reactor,
-    K: Teller<Report>,
+    K: Teller<Departure>,
 >(
     rt: &H,
     limits: &Limits,

@@ -1,12 +1,11 @@
 -- What came after the answer to the start is what the server promises.
-use Rattle.std.proofs.Common.{◌≡◌, ◌⊎◌, ◌∙◌, inl, inr, ap, ℕ, Bool, List, [], Option, Some, None, subst, sym}
+use Rattle.std.proofs.Common.{◌≡◌, ◌⊎◌, ◌∙◌, inl, inr, ap, ℕ, List, [], Option, Some, None, subst, sym}
 use Rattle.asgi_types.specs.declared.end_kind.EndKind.{EndKind}
 use Rattle.asgi_types.specs.declared.incoming.Incoming.{Incoming}
 use Rattle.asgi_types.specs.declared.limits.Limits.{Limits}
 use Rattle.asgi_types.specs.declared.outgoing.Outgoing.{Outgoing}
 use Rattle.asgi_apps.specs.declared.task.AppTask as tasks
 use Rattle.asgi_types.specs.declared.state.StateValue.{StateValue}
-use Rattle.asgi_ws.specs.Lines.{LineState}
 use Rattle.asgi_apps.specs.Promises.{Promise}
 use Rattle.asgi_lifespan.specs.declared.lifespan.Lifespan.{Lifespan}
 use Rattle.asgi_lifespan.specs.declared.lifespan.Start.{Start}
@@ -17,10 +16,9 @@ use Rattle.asgi_lifespan.specs.Facts.{lifespan_scope}
 use Rattle.asgi_lifespan.specs.Lifespan.{StartAnswer, started, failed, unsupported, start_answer}
 use Rattle.asgi_lifespan.specs.Starting.{Starts, StandsFor, PromiseOf, IsNoMemory, turns_in}
 use Rattle.asgi_lifespan.specs.Stopping.{Stops}
-use Rattle.asgi_conversation.specs.declared.report.Report.{Report}
 use Rattle.nomtsage.specs.declared.ending.Ending.{Ending}
 use Rattle.nomtsage.specs.declared.ending.Served.{Served}
-use Rattle.nomtsage.specs.Serving.{Around, LivesOrNot, Follows, ServesEach, ending_of}
+use Rattle.nomtsage.specs.Serving.{LivesOrNot, Follows, ending_of}
 use Rattle.nomtsage.specs.private.Following.{FollowsStart}
 
 -- in the one case nothing was counted
@@ -44,11 +42,11 @@ kept_within one other limits heard said before after answer within x = record {
   turns = x.turns;
 }
 
-module _ {L K T : Type 0} (line_state : L → LineState) (tells : K → K → ℕ → Report → Type 0) (answers : Promise) (limits : Limits) (workers : ℕ) (has_failed : Bool) (g : tasks.Ghosts T)
-    (old new : Around L K) (before between after : ℕ) (ends : Ending) where
+module _ {A T : Type 0} (serves : List (List ℕ × StateValue) → A → A → Served → Type 0) (answers : Promise) (limits : Limits) (g : tasks.Ghosts T)
+    (old new : A) (before between after : ℕ) (ends : Ending) where
   -- an application that was started like this, and what came next
   lives_by : (answer : Start T g) (x : Starts (answers lifespan_scope) limits before between answer)
-      → Follows line_state tells answers limits workers has_failed (start_answer x.said x.ended) x.heard x.said old new between after ends → LivesOrNot line_state tells answers limits workers has_failed old new before after ends
+      → Follows serves answers limits (start_answer x.said x.ended) x.heard x.said old new between after ends → LivesOrNot serves answers limits old new before after ends
   lives_by answer x follows = inl record {
     heard = x.heard;
     said = x.said;
@@ -64,13 +62,13 @@ module _ {L K T : Type 0} (line_state : L → LineState) (tells : K → K → �
 
   -- the same by what came after its answer
   follows_by : (answer : Start T g) (told : Option StartAnswer) (x : Starts (answers lifespan_scope) limits before between answer) → start_answer x.said x.ended ≡ told
-      → Follows line_state tells answers limits workers has_failed told x.heard x.said old new between after ends → LivesOrNot line_state tells answers limits workers has_failed old new before after ends
+      → Follows serves answers limits told x.heard x.said old new between after ends → LivesOrNot serves answers limits old new before after ends
   follows_by answer told x is follows =
-      lives_by answer x (subst (λ a. Follows line_state tells answers limits workers has_failed a x.heard x.said old new between after ends) (sym is) follows)
+      lives_by answer x (subst (λ a. Follows serves answers limits a x.heard x.said old new between after ends) (sym is) follows)
 
   -- what comes after each answer
   pub lives_of : (answer : Start T g) → (IsNoMemory answer × (between ≡ before)) ⊎ Starts (answers lifespan_scope) limits before between answer
-      → FollowsStart line_state tells answers limits workers has_failed answer old new between after ends → LivesOrNot line_state tells answers limits workers has_failed old new before after ends
+      → FollowsStart serves limits answer old new between after ends → LivesOrNot serves answers limits old new before after ends
   lives_of (start.Started life state) (inl none) f = absurd none.0
   lives_of (start.Started life state) (inr x) f =
       follows_by (start.Started life state) (Some (started state)) x x.answered
@@ -84,16 +82,16 @@ module _ {L K T : Type 0} (line_state : L → LineState) (tells : K → K → �
   lives_of start.NoMemory (inl none) f = inr (f.0, f.1 ∙ none.1, f.2)
   lives_of start.NoMemory (inr x) f = absurd x.answered
 
-module _ {L K T : Type 0} (line_state : L → LineState) (tells : K → K → ℕ → Report → Type 0) (answers : Promise) (limits : Limits) (workers : ℕ) (has_failed : Bool) (g : tasks.Ghosts T)
-    (old new : Around L K) (before after : ℕ) (ends : Ending) where
+module _ {A T : Type 0} (serves : List (List ℕ × StateValue) → A → A → Served → Type 0) (limits : Limits) (g : tasks.Ghosts T)
+    (old new : A) (before after : ℕ) (ends : Ending) where
   -- the answer is another name for this one
-  pub as_answered : (answer other : Start T g) → answer ≡ other → FollowsStart line_state tells answers limits workers has_failed other old new before after ends
-      → FollowsStart line_state tells answers limits workers has_failed answer old new before after ends
-  as_answered answer other same f = subst (λ a. FollowsStart line_state tells answers limits workers has_failed a old new before after ends) (sym same) f
+  pub as_answered : (answer other : Start T g) → answer ≡ other → FollowsStart serves limits other old new before after ends
+      → FollowsStart serves limits answer old new before after ends
+  as_answered answer other same f = subst (λ a. FollowsStart serves limits a old new before after ends) (sym same) f
 
   -- an application without a lifespan was served with a state that is empty
   pub served_unsupported : (answer : Start T g) (state : List (List ℕ × StateValue)) (how : Served) → answer ≡ start.Unsupported → state ≡ []
-      → ServesEach line_state tells answers limits workers has_failed state old new how → after ≡ before → ends ≡ ending_of how stop.Stopped
-      → FollowsStart line_state tells answers limits workers has_failed answer old new before after ends
+      → serves state old new how → after ≡ before → ends ≡ ending_of how stop.Stopped
+      → FollowsStart serves limits answer old new before after ends
   served_unsupported answer state how same empty served rests ends =
-      as_answered answer start.Unsupported same (how, subst (λ s. ServesEach line_state tells answers limits workers has_failed s old new how) empty served, rests, ends)
+      as_answered answer start.Unsupported same (how, subst (λ s. serves s old new how) empty served, rests, ends)

@@ -1,3 +1,4 @@
 pub mod private
 pub mod Serving
 pub mod Running
+pub mod Seats

@@ -25,6 +25,7 @@ IsResultOf ending.NoShutdown why result = IsErrOf result error.NoShutdown
 IsResultOf ending.ListenerFailed why result = IsErrOf result (error.CannotAccept why)
 IsResultOf ending.NoMemory why result = IsErrOf result error.NoMemory
 IsResultOf ending.NoThread why result = IsErrOf result error.NoThread
+IsResultOf ending.TooLong why result = IsErrOf result error.TooLong
 
 -- the exit status of a program that ends by this error: 2 for a setting, 3 for a start, 4 for a stop, 5 for the system
 abbrev pub status_of : ServeError → ℕ
@@ -37,6 +38,7 @@ status_of (error.ShutdownFailed message) = 4
 status_of error.NoShutdown = 4
 status_of error.NoMemory = 5
 status_of error.NoThread = 5
+status_of error.TooLong = 5
 
 -- the exit status of a program that ends by this result
 abbrev pub exit_of : Result (Unit {0}) ServeError → ℕ

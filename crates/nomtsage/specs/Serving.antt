@@ -1,5 +1,6 @@
--- How a server serves: the application is started, each connection that the listener gives is served once and reported once, and the
--- application is stopped, whatever happened in between (ASGI lifespan protocol 2.0).
+-- How a server serves: the application is started, each connection that comes is served once and reported once, and the application is
+-- stopped, whatever happened in between (ASGI lifespan protocol 2.0). `Lives` has how connections are served as its parameter, of which there
+-- are two: by workers (`ServesEach`), and in seats (`ServesSeats` of Seats.antt).
 use Rattle.std.specs.Prelude.{◌≡◌, ◌⊎◌, ℕ, Bool, true, false, List, [], ◌∷◌, replicate, Option, Some, None}
 use mathlib.Core.List.{IsPrefix}
 use Rattle.asgi_types.specs.declared.end_kind.EndKind.{EndKind}
@@ -51,21 +52,22 @@ ending_of served.Each answer = end_by_stop answer
 ending_of served.ListenerFailed answer = ending.ListenerFailed
 ending_of served.NoMemory answer = ending.NoMemory
 ending_of served.NoThread answer = ending.NoThread
+ending_of served.TooLong answer = ending.TooLong
 
 -- ---- the connections and their reports
 
--- What is known at one time: the result of each call of the listener, and what gets the reports.
-pub record Around (L K : Type 0) : Type 0 where
-  pub asked : List (Option (Given L))
+-- What is known at one time: the result of each call for a connection, and what gets the reports.
+pub record Around (Q K : Type 0) : Type 0 where
+  pub asked : List Q
   pub teller : K
 
-abbrev pub around : {L K : Type 0} → List (Option (Given L)) → K → Around L K
+abbrev pub around : {Q K : Type 0} → List Q → K → Around Q K
 around asked teller = record { asked = asked; teller = teller }
 
 module _ {L K : Type 0} (line_state : L → LineState) (tells : K → K → ℕ → Report → Type 0) (answers : Promise) (limits : Limits) (workers : ℕ) (has_failed : Bool) where
   -- The connections that the listener gave were served with this state, each once, as `Serves` of asgi_conn states, and each by one of
   -- `workers` workers. The teller got a report of each, once, in the order in which they came.
-  pub record ServesEach (state : List (List ℕ × StateValue)) (old new : Around L K) (how : Served) : Type 0 where
+  pub record ServesEach (state : List (List ℕ × StateValue)) (old new : Around (Option (Given L)) K) (how : Served) : Type 0 where
     -- why no more connections were asked for
     pub ended : End
     -- the count of each worker's pauses began at none, and is this
@@ -75,20 +77,22 @@ module _ {L K : Type 0} (line_state : L → LineState) (tells : K → K → ℕ 
     pub told : Told tells old.teller new.teller reports
     pub how_is : how ≡ served_of ended has_failed
 
-  -- ---- the life of the application
+-- ---- the life of the application
 
-  -- What comes after the answer to "Startup", and after what was received and sent up to it. If the start failed, or there was no answer, the
-  -- listener is not asked, and nothing is reported.
-  abbrev pub Follows : Option StartAnswer → List Incoming → List Outgoing → Around L K → Around L K → ℕ → ℕ → Ending → Type 0
+-- how connections are served with a state, from what is known before to what is known after it
+module _ {A : Type 0} (serves : List (List ℕ × StateValue) → A → A → Served → Type 0) (answers : Promise) (limits : Limits) where
+  -- What comes after the answer to "Startup", and after what was received and sent up to it. If the start failed, or there was no answer, no
+  -- connection is asked for, and nothing is reported.
+  abbrev pub Follows : Option StartAnswer → List Incoming → List Outgoing → A → A → ℕ → ℕ → Ending → Type 0
   Follows (Some (started state)) heard said old new before after ends =
-      (how : Served) × (answer : Stop) × ServesEach state old new how × Stops (answers lifespan_scope) limits heard said before after answer × (ends ≡ ending_of how answer)
+      (how : Served) × (answer : Stop) × serves state old new how × Stops (answers lifespan_scope) limits heard said before after answer × (ends ≡ ending_of how answer)
   Follows (Some unsupported) heard said old new before after ends =
-      (how : Served) × ServesEach [] old new how × (after ≡ before) × (ends ≡ ending_of how stop.Stopped)
+      (how : Served) × serves [] old new how × (after ≡ before) × (ends ≡ ending_of how stop.Stopped)
   Follows (Some (failed message)) heard said old new before after ends = (new ≡ old) × (after ≡ before) × (ends ≡ ending.StartupFailed message)
   Follows None heard said old new before after ends = (new ≡ old) × (after ≡ before) × (ends ≡ ending.NoStartup)
 
   -- The application was started, and what came next is by its answer.
-  pub record Lives (old new : Around L K) (before after : ℕ) (ends : Ending) : Type 0 where
+  pub record Lives (old new : A) (before after : ℕ) (ends : Ending) : Type 0 where
     -- The application was offered "Startup"; all that it sent by then is lawful, and as it promises.
     pub heard : List Incoming
     pub said : List Outgoing
@@ -102,10 +106,15 @@ module _ {L K : Type 0} (line_state : L → LineState) (tells : K → K → ℕ 
     pub turns : TakesTurns limits.turns limits.idle_turns before between gave_up
     pub follows : Follows (start_answer said ended) heard said old new between after ends
 
-  -- or memory for its start was refused: no turn was taken, and the listener was not asked
-  abbrev pub LivesOrNot : Around L K → Around L K → ℕ → ℕ → Ending → Type 0
+  -- or memory for its start was refused: no turn was taken, and no connection was asked for
+  abbrev pub LivesOrNot : A → A → ℕ → ℕ → Ending → Type 0
   LivesOrNot old new before after ends = Lives old new before after ends ⊎ ((new ≡ old) × (after ≡ before) × (ends ≡ ending.NoMemory))
 
-  -- or what the server needs was refused before: the application was not started, and the listener not asked
-  abbrev pub ServesOn : Around L K → Around L K → Ending → Type 0
-  ServesOn old new ends = ((pauses : ℕ) × LivesOrNot old new 0 pauses ends) ⊎ ((new ≡ old) × ((ends ≡ ending.NoMemory) ⊎ (ends ≡ ending.NoThread)))
+  -- or what the server needs was refused before: the application was not started, and no connection asked for
+  abbrev pub LivesOn : A → A → Ending → Type 0
+  LivesOn old new ends = ((pauses : ℕ) × LivesOrNot old new 0 pauses ends) ⊎ ((new ≡ old) × ((ends ≡ ending.NoMemory) ⊎ (ends ≡ ending.NoThread)))
+
+-- the same of a server with workers
+abbrev pub ServesOn : {L K : Type 0} → (L → LineState) → (K → K → ℕ → Report → Type 0) → Promise → Limits → ℕ → Bool → Around (Option (Given L)) K → Around (Option (Given L)) K → Ending → Type 0
+ServesOn line_state tells answers limits workers has_failed old new ends =
+    LivesOn (ServesEach line_state tells answers limits workers has_failed) answers limits old new ends

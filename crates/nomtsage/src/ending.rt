@@ -17,6 +17,8 @@ pub enum Served {
     NoMemory,
     /// None, since a worker was refused its thread.
     NoThread,
+    /// Not each, since 2^64 - 1 steps were taken.
+    TooLong,
 }
 
 /// How a server ended.
@@ -38,6 +40,8 @@ pub enum Ending {
     NoMemory,
     /// A thread was refused, and no connection was asked for.
     NoThread,
+    /// 2^64 - 1 steps were taken, so not each connection was served to its end.
+    TooLong,
 }
 
 /// How serving ended, by why no more connections were asked for, and whether the listener failed.
@@ -70,6 +74,7 @@ pub fn ending_of(served: Served, stop: Stop) -> Ending
         Served::ListenerFailed => Ending::ListenerFailed,
         Served::NoMemory => Ending::NoMemory,
         Served::NoThread => Ending::NoThread,
+        Served::TooLong => Ending::TooLong,
     }
 }
 

@@ -13,6 +13,12 @@ pub struct InWorker<G> {
     engines: PhantomData<G>,
 }
 
+/// All in the caller's thread, where so many connections at a time are taken up turn by turn.
+#[derive(Clone, Copy, Debug)]
+pub struct InSeats {
+    pub(crate) seats: usize,
+}
+
 impl<R: Host> InWorker<InlineStation<R>> {
     /// With the engine that a server has for this.
     pub fn of(_rt: &R) -> Self {

@@ -62,6 +62,9 @@ pub enum ServeError {
     /// A thread was refused to a worker or its application. No connection was accepted.
     #[error("no thread for a worker")]
     NoThread,
+    /// More steps were taken than can be counted, so not each connection was served to its end.
+    #[error("too many steps to count")]
+    TooLong,
 }
 
 impl ServeError {
@@ -79,6 +82,7 @@ impl ServeError {
             ServeError::NoShutdown => 4,
             ServeError::NoMemory => 5,
             ServeError::NoThread => 5,
+            ServeError::TooLong => 5,
         }
     }
 }

@@ -5,40 +5,111 @@ mod ending;
 mod engines;
 mod fault;
 mod returning;
+mod seated;
+mod seats;
 mod serve;
 mod server;
 mod stop;
 mod tellers;
 
-pub use asgi_apps::{
-    AppFault, AppTask, Application, Echo, Hello, Life, MountError, Mounts, NotFound, RootPath,
-    Says, WsEcho,
-};
-pub use asgi_conn::{Host, Outcome, Report};
-pub use asgi_handlers::{Handled, HandledTask, Handler, Held, Reply, Request, Shared, ask};
-pub use asgi_pipes::{AppEnd, EndKind, Sent};
-pub use asgi_routes::{
-    Chain, Empty, Endpoint, Endpoints, Method, NoRooms, NoSession, Room, RoomChain, RoomList,
-    RoomSession, Rooms, RouteError, Routes, param_of,
-};
-pub use asgi_server::{
-    Accepts, Engine, InlineStation, Listener, Nobody, OnEnd, Teller, Threadless, Workers,
-};
-pub use asgi_talks::{
-    Answer, Both, BothTask, Close, Hosted, HostedTalker, Hushed, Messages, Opened, Talk, Talked,
-    TalkedTask, Talker, Tells, Told,
-};
-pub use asgi_types::{
-    BadLimit, Chars, HeaderError, Headers, HttpScope, HttpVersion, Incoming, Kind, LifespanScope,
-    Limits, Names, Octets, Outgoing, Payload, Peer, Reason, Scope, State, StateError, StateValue,
-    WsScope,
-};
+pub use asgi_apps::AppFault;
+pub use asgi_apps::AppTask;
+pub use asgi_apps::Application;
+pub use asgi_apps::Echo;
+pub use asgi_apps::Hello;
+pub use asgi_apps::Life;
+pub use asgi_apps::MountError;
+pub use asgi_apps::Mounts;
+pub use asgi_apps::NotFound;
+pub use asgi_apps::RootPath;
+pub use asgi_apps::Says;
+pub use asgi_apps::WsEcho;
+pub use asgi_conn::Host;
+pub use asgi_conn::Outcome;
+pub use asgi_conn::Report;
+pub use asgi_handlers::Handled;
+pub use asgi_handlers::HandledTask;
+pub use asgi_handlers::Handler;
+pub use asgi_handlers::Held;
+pub use asgi_handlers::Reply;
+pub use asgi_handlers::Request;
+pub use asgi_handlers::Shared;
+pub use asgi_handlers::ask;
+pub use asgi_pipes::AppEnd;
+pub use asgi_pipes::EndKind;
+pub use asgi_pipes::Sent;
+pub use asgi_routes::Chain;
+pub use asgi_routes::Empty;
+pub use asgi_routes::Endpoint;
+pub use asgi_routes::Endpoints;
+pub use asgi_routes::Method;
+pub use asgi_routes::NoRooms;
+pub use asgi_routes::NoSession;
+pub use asgi_routes::Room;
+pub use asgi_routes::RoomChain;
+pub use asgi_routes::RoomList;
+pub use asgi_routes::RoomSession;
+pub use asgi_routes::Rooms;
+pub use asgi_routes::RouteError;
+pub use asgi_routes::Routes;
+pub use asgi_routes::param_of;
+pub use asgi_server::Accepts;
+pub use asgi_server::Engine;
+pub use asgi_server::InlineStation;
+pub use asgi_server::Listener;
+pub use asgi_server::Nobody;
+pub use asgi_server::OnEnd;
+pub use asgi_server::Teller;
+pub use asgi_server::Threadless;
+pub use asgi_server::Workers;
+pub use asgi_talks::Answer;
+pub use asgi_talks::Both;
+pub use asgi_talks::BothTask;
+pub use asgi_talks::Close;
+pub use asgi_talks::Hosted;
+pub use asgi_talks::HostedTalker;
+pub use asgi_talks::Hushed;
+pub use asgi_talks::Messages;
+pub use asgi_talks::Opened;
+pub use asgi_talks::Talk;
+pub use asgi_talks::Talked;
+pub use asgi_talks::TalkedTask;
+pub use asgi_talks::Talker;
+pub use asgi_talks::Tells;
+pub use asgi_talks::Told;
+pub use asgi_types::BadLimit;
+pub use asgi_types::Chars;
+pub use asgi_types::HeaderError;
+pub use asgi_types::Headers;
+pub use asgi_types::HttpScope;
+pub use asgi_types::HttpVersion;
+pub use asgi_types::Incoming;
+pub use asgi_types::Kind;
+pub use asgi_types::LifespanScope;
+pub use asgi_types::Limits;
+pub use asgi_types::Names;
+pub use asgi_types::Octets;
+pub use asgi_types::Outgoing;
+pub use asgi_types::Payload;
+pub use asgi_types::Peer;
+pub use asgi_types::Reason;
+pub use asgi_types::Scope;
+pub use asgi_types::State;
+pub use asgi_types::StateError;
+pub use asgi_types::StateValue;
+pub use asgi_types::WsScope;
 pub use asgi_ws::Line;
 pub use ending::Ending;
-pub use engines::{InThread, InWorker};
-pub use fault::{ListenFault, ServeError};
-pub use futures::task::{Context, Poll};
-pub use serve::{serve_in_worker_on, serve_on};
+pub use engines::InSeats;
+pub use engines::InThread;
+pub use engines::InWorker;
+pub use fault::ListenFault;
+pub use fault::ServeError;
+pub use futures::task::Context;
+pub use futures::task::Poll;
+pub use serve::serve_in_worker_on;
+pub use serve::serve_on;
 pub use server::Server;
 pub use stop::Stop;
-pub use tellers::{LogLines, Quiet};
+pub use tellers::LogLines;
+pub use tellers::Quiet;

@@ -18,5 +18,6 @@ pub fn result_of(ending: Ending, why: io::Error) -> Result<(), ServeError>
         Ending::ListenerFailed => Err(ServeError::CannotAccept(why)),
         Ending::NoMemory => Err(ServeError::NoMemory),
         Ending::NoThread => Err(ServeError::NoThread),
+        Ending::TooLong => Err(ServeError::TooLong),
     }
 }

@@ -128,7 +128,7 @@ fn run<
 ) -> (Ending, K)
     requires fresh { (vec_len list ≡ workers.count) × All (λ s. G.pauses s ≡ 0) list.items }
     requires within { PromisesWithin (G.answers app.now) (A.answers app.now) }
-    ensures runs { LivesOrNot L.state K.tells (A.answers app.now) limits.now workers.count (N.has_failed listener.new)
+    ensures runs { LivesOrNot (ServesEach L.state K.tells (A.answers app.now) limits.now workers.count (N.has_failed listener.new)) (A.answers app.now) limits.now
         (around (N.Listener.own.answers listener.old) teller)
         (around (N.Listener.own.answers listener.new) result.1)
         (P.count pause.old) (P.count pause.new) result.0 }
@@ -167,7 +167,7 @@ fn live<
 ) -> (Ending, K)
     requires fresh { (vec_len list ≡ workers.count) × All (λ s. G.pauses s ≡ 0) list.items }
     requires within { PromisesWithin (G.answers app.now) (A.answers app.now) }
-    ensures lives { LivesOrNot L.state K.tells (A.answers app.now) limits.now workers.count (N.has_failed listener.new)
+    ensures lives { LivesOrNot (ServesEach L.state K.tells (A.answers app.now) limits.now workers.count (N.has_failed listener.new)) (A.answers app.now) limits.now
         (around (N.Listener.own.answers listener.old) teller)
         (around (N.Listener.own.answers listener.new) result.1)
         (P.count pause.old) (P.count pause.new) result.0 }
@@ -205,7 +205,7 @@ fn follow<
 ) -> (Ending, K)
     requires fresh { (vec_len list ≡ workers.count) × All (λ s. G.pauses s ≡ 0) list.items }
     requires within { PromisesWithin (G.answers app.now) (A.answers app.now) }
-    ensures follows { FollowsStart L.state K.tells (A.answers app.now) limits.now workers.count (N.has_failed listener.new) answer
+    ensures follows { FollowsStart (ServesEach L.state K.tells (A.answers app.now) limits.now workers.count (N.has_failed listener.new)) limits.now answer
         (around (N.Listener.own.answers listener.old) teller)
         (around (N.Listener.own.answers listener.new) result.1)
         (P.count pause.old) (P.count pause.new) result.0 }

@@ -1,10 +1,10 @@
 //! A server of an address: its settings, and the call that serves.
-ghost use Rattle.std.specs.Prelude.{◌≡◌, ◌-◌, ◌^◌, [], None, Some, IfOk, IfErr};
+ghost use Rattle.std.specs.Prelude.{◌≡◌, ◌-◌, ◌^◌, [], None, Some, IfOk, IfErr, IfSome};
 ghost use Rattle.asgi_server.specs.Arrivals.{IsLoopbackAt};
 ghost use Rattle.std.specs.Process.{exit_status};
 ghost use Rattle.nomtsage.specs.Running.{IsNumber, IsNumberBy, Ran, Runs, RunsTo, settings, status_of};
 
-use crate::engines::{InThread, InWorker};
+use crate::engines::{InSeats, InThread, InWorker};
 use crate::fault::{ListenFault, ServeError};
 use crate::returning::result_of;
 use crate::serve::{serve_in_worker_on, serve_on};
@@ -31,14 +31,14 @@ const MOST_WORKERS: u64 = 8;
 /// processors, at most 8, each with a thread for its tasks, the usual limits, and no end, and tells nobody of its connections.
 #[derive(Drop)]
 pub struct Server<'a, K: Drop, E: Drop, G: Drop> {
-    address: SocketAddr,
+    pub(crate) address: SocketAddr,
     workers: Option<u64>,
-    limits: Limits,
-    count: u64,
-    stop: Option<&'a Stop>,
-    on_report: K,
-    on_end: E,
-    engines: G,
+    pub(crate) limits: Limits,
+    pub(crate) count: u64,
+    pub(crate) stop: Option<&'a Stop>,
+    pub(crate) on_report: K,
+    pub(crate) on_end: E,
+    pub(crate) engines: G,
 }
 
 impl<'a> Server<'a, Quiet, Nobody, InThread> {
@@ -208,6 +208,40 @@ impl<'a, K: Drop, E: Drop, G: Drop> Server<'a, K, E, G> {
             on_report,
             on_end,
             engines: InWorker::of(rt),
+        }
+    }
+
+    /// Serves in the thread that calls `run`, at most `seats` connections at a time, each taken up as soon as its socket is
+    /// ready: for many clients, and applications that never block, since a task that does holds up all of them. There is no
+    /// other thread, and the number of workers has no effect. `on_report` is told of each connection as it ends, under the
+    /// number of its arrival.
+    ///
+    /// While no byte moves, an idle turn of a connection takes a second: so many as the limits have 400 idle turns, at least
+    /// one; of the usual limits 75.
+    pub fn in_seats(self, seats: usize) -> Server<'a, K, E, InSeats>
+        ensures set { result.engines.seats ≡ seats }
+        ensures others { let was = self.entry in (result.address ≡ was.address) × (result.workers ≡ was.workers) × (result.limits ≡ was.limits)
+            × (result.count ≡ was.count) × (result.stop ≡ was.stop) × (result.on_report ≡ was.on_report) × (result.on_end ≡ was.on_end) }
+    {
+        let Server {
+            address,
+            workers,
+            limits,
+            count,
+            stop,
+            on_report,
+            on_end,
+            engines: _before,
+        } = self;
+        Server {
+            address,
+            workers,
+            limits,
+            count,
+            stop,
+            on_report,
+            on_end,
+            engines: InSeats { seats },
         }
     }
 }
@@ -394,7 +428,7 @@ impl<'a, K: Teller<Report> + Drop + Send, E: OnEnd + Drop + Send + Sync, G: Drop
 }
 
 /// Writes why the server failed to the log, and returns the exit status.
-fn failed<H: Log>(rt: &H, e: ServeError) -> ExitCode
+pub(crate) fn failed<H: Log>(rt: &H, e: ServeError) -> ExitCode
     ensures { exit_status result ≡ status_of e }
 {
     error!(rt; "{e}");
@@ -520,7 +554,9 @@ fn say_where<H: Net + Clock + Log>(rt: &H, listener: &Listening<'_, H>) {
 }
 
 /// The error, or one that says nothing.
-fn error_of(why: Option<io::Error>) -> io::Error {
+pub(crate) fn error_of(why: Option<io::Error>) -> io::Error
+    ensures { IfSome why (λ e. result ≡ e) }
+{
     match why {
         Some(e) => e,
         None => io::Error::from(ErrorKind::Other),

@@ -1,6 +1,7 @@
 //! What is told of connections.
 
 use asgi_conn::Report;
+use asgi_reactor::Departure;
 use asgi_server::{OnEnd, Teller};
 use asgi_types::Peer;
 use log::{Log, info};
@@ -14,6 +15,22 @@ impl Teller<Report> for Quiet {
     ghost tells = { λ _ _ _ _. Unit {0} };
 
     fn tell(&mut self, _number: u64, _report: &Report) {}
+}
+
+/// Tells the report of a connection, and then what is to be called as it ends.
+#[derive(Drop)]
+pub(crate) struct Tells<K, E> {
+    pub(crate) on_report: K,
+    pub(crate) on_end: E,
+}
+
+impl<K: Teller<Report>, E: OnEnd> Teller<Departure> for Tells<K, E> {
+    ghost tells = { λ was is number departure. K.tells was.on_report is.on_report number departure.report };
+
+    fn tell(&mut self, number: u64, departure: &Departure) {
+        self.on_report.tell(number, &departure.report);
+        self.on_end.ended(&departure.report, &departure.client);
+    }
 }
 
 /// Writes a line of the log as each connection ends: how many have ended with it, its client, how many requests it had, and

@@ -11,7 +11,7 @@ use fails::Fails;
 use nomtsage::{BadLimit, Handled, Hello, Life, Limits, Server, Stop};
 use std::io;
 use std::process::ExitCode;
-use words::{App, Served, usage, words_of};
+use words::{App, Seated, Served, Words, usage, words_of};
 
 fn main(rt: HostRuntime) -> ExitCode {
     let Some(words) = words_of(&rt) else {
@@ -27,6 +27,7 @@ fn main(rt: HostRuntime) -> ExitCode {
                 server.serve(&rt, &Hello)
             };
         }
+        Served::Seated(app) => return seated(&rt, &words, app),
     };
     let stop = Stop::new();
     let server = Server::at(words.address)
@@ -41,6 +42,22 @@ fn main(rt: HostRuntime) -> ExitCode {
         App::NoStart => server.serve(&rt, &Life::NoStart),
         App::NoStop => server.serve(&rt, &Life::NoStop),
         App::Silent(silent) => server.limits(few_turns()).serve(&rt, &silent),
+    }
+}
+
+/// Serves the application in seats.
+fn seated(rt: &HostRuntime, words: &Words, app: Seated) -> ExitCode {
+    let stop = Stop::new();
+    let server = Server::at(words.address)
+        .connections(words.count)
+        .stop(&stop)
+        .log_connections(rt)
+        .in_seats(words.workers as usize);
+    match app {
+        Seated::Hello => server.serve(rt, &Hello),
+        Seated::Ends => server.serve(rt, &Ends { stop: &stop }),
+        Seated::NoStart => server.serve(rt, &Life::NoStart),
+        Seated::NoStop => server.serve(rt, &Life::NoStop),
     }
 }
 

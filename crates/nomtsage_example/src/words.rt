@@ -24,6 +24,17 @@ pub enum Served {
     Logged(App),
     /// `Hello`, by a server that tells nobody of its connections, with its tasks in threads or in its workers.
     Quiet { in_worker: bool },
+    /// The application, by a server that logs its connections, which are in as many seats as there are to be workers.
+    Seated(Seated),
+}
+
+/// The application that is to be served in seats.
+#[derive(Clone, Copy, Debug)]
+pub enum Seated {
+    Hello,
+    Ends,
+    NoStart,
+    NoStop,
 }
 
 /// What the words ask for.
@@ -55,6 +66,10 @@ fn served_named(name: &str) -> Option<Served> {
     match name {
         "quiet" => Some(Served::Quiet { in_worker: false }),
         "quietworker" => Some(Served::Quiet { in_worker: true }),
+        "seats" => Some(Served::Seated(Seated::Hello)),
+        "seatsends" => Some(Served::Seated(Seated::Ends)),
+        "seatsnostart" => Some(Served::Seated(Seated::NoStart)),
+        "seatsnostop" => Some(Served::Seated(Seated::NoStop)),
         _ => Some(Served::Logged(app_named(name)?)),
     }
 }

@@ -1,13 +1,11 @@
 -- What comes after the start of the application, by its answer (ASGI lifespan protocol 2.0, "Startup Complete", "Startup Failed").
-use Rattle.std.specs.Prelude.{◌≡◌, ℕ, Bool, List, [], Option}
+use Rattle.asgi_types.specs.declared.state.StateValue.{StateValue}
+use Rattle.std.specs.Prelude.{◌≡◌, ℕ, List, [], Option}
 use Rattle.asgi_types.specs.declared.end_kind.EndKind.{EndKind}
 use Rattle.asgi_types.specs.declared.incoming.Incoming.{Incoming}
 use Rattle.asgi_types.specs.declared.limits.Limits.{Limits}
 use Rattle.asgi_types.specs.declared.outgoing.Outgoing.{Outgoing}
-use Rattle.asgi_ws.specs.Lines.{LineState}
 use Rattle.asgi_apps.specs.declared.task.AppTask.{Ghosts}
-use Rattle.asgi_apps.specs.Promises.{Promise}
-use Rattle.asgi_conversation.specs.declared.report.Report.{Report}
 use Rattle.asgi_lifespan.specs.declared.lifespan.Lifespan.{Lifespan}
 use Rattle.asgi_lifespan.specs.declared.lifespan.Start.{Start}
 use Rattle.asgi_lifespan.specs.declared.lifespan.Start.TheVariants as start
@@ -18,20 +16,20 @@ use Rattle.asgi_lifespan.specs.Stopping.{Stops}
 use Rattle.nomtsage.specs.declared.ending.Served.{Served}
 use Rattle.nomtsage.specs.declared.ending.Ending.{Ending}
 use Rattle.nomtsage.specs.declared.ending.Ending.TheVariants as ending
-use Rattle.nomtsage.specs.Serving.{Around, ServesEach, ending_of}
+use Rattle.nomtsage.specs.Serving.{ending_of}
 
 -- the application was stopped with this answer, whatever it had received and sent before
 abbrev pub IsStopped : {T : Type 0} {g : Ghosts T} → Limits → Lifespan T g → ℕ → ℕ → Stop → Type 0
 IsStopped limits life before after answer =
     (heard : List Incoming) (said : List Outgoing) (ended : Option EndKind) → StandsFor limits life heard said ended → Stops (PromiseOf life) limits heard said before after answer
 
-module _ {L K : Type 0} (line_state : L → LineState) (tells : K → K → ℕ → Report → Type 0) (answers : Promise) (limits : Limits) (workers : ℕ) (has_failed : Bool) {T : Type 0} {g : Ghosts T} where
-  -- A start that failed, had no answer or lacked memory is the end, as what it is, and the listener is not asked.
-  abbrev pub FollowsStart : Start T g → Around L K → Around L K → ℕ → ℕ → Ending → Type 0
+module _ {A : Type 0} (serves : List (List ℕ × StateValue) → A → A → Served → Type 0) (limits : Limits) {T : Type 0} {g : Ghosts T} where
+  -- A start that failed, had no answer or lacked memory is the end, as what it is, and no connection is asked for.
+  abbrev pub FollowsStart : Start T g → A → A → ℕ → ℕ → Ending → Type 0
   FollowsStart (start.Started life state) old new before after ends =
-      (how : Served) × (answer : Stop) × ServesEach line_state tells answers limits workers has_failed state old new how × IsStopped limits life before after answer × (ends ≡ ending_of how answer)
+      (how : Served) × (answer : Stop) × serves state old new how × IsStopped limits life before after answer × (ends ≡ ending_of how answer)
   FollowsStart start.Unsupported old new before after ends =
-      (how : Served) × ServesEach line_state tells answers limits workers has_failed [] old new how × (after ≡ before) × (ends ≡ ending_of how stop.Stopped)
+      (how : Served) × serves [] old new how × (after ≡ before) × (ends ≡ ending_of how stop.Stopped)
   FollowsStart (start.Failed message) old new before after ends = (new ≡ old) × (after ≡ before) × (ends ≡ ending.StartupFailed message)
   FollowsStart (start.Idle turns) old new before after ends = (new ≡ old) × (after ≡ before) × (ends ≡ ending.NoStartup)
   FollowsStart start.NoMemory old new before after ends = (new ≡ old) × (after ≡ before) × (ends ≡ ending.NoMemory)

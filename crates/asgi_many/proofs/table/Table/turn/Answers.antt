@@ -42,7 +42,7 @@ returns-in-Over-clause-holds g c came ended holds =
     let end = rw written.changed at c.free.ensures.end in
     lemma.ends_at _ _ _ _ _ _ _ _ c.args.self.now _ c.args.at c.free.ensures.same.0 holds c.in-Some.seat.now c.free.result c.free.ensures.same.2 there c.free.ensures.free
     (λ j differs. c.free.ensures.others j differs ∙ written.others j differs) (end.0 ∙ c.turn.ensures.number)
-    (λ one at. rw (end.3, end.2, end.1) (c.in-Over.ensures.served c.args.self.now.limits one at))
+    (λ one at. (end.4 ∙ (c.turn.ensures.at c.args.self.now.limits one at).client, rw (end.3, end.2, end.1) (c.in-Over.ensures.served c.args.self.now.limits one at)))
 
 pub returns-in-Over-clause-over : goal.returns-in-Over-clause-over
 returns-in-Over-clause-over g c came ended holds =
@@ -50,7 +50,7 @@ returns-in-Over-clause-over g c came ended holds =
     let written = lemma.writes c.args.self.now.seats c.args.at c.in-Some.seat.now c.turn.new.self there in
     let end = rw written.changed at c.free.ensures.end in
     lemma.over _ _ _ _ _ _ _ _ c.args.self.now c.args.self.now c.args.at refl holds c.in-Some.seat.now c.free.result there (end.0 ∙ c.turn.ensures.number)
-    (λ one at. rw (end.3, end.2, end.1) (c.in-Over.ensures.served c.args.self.now.limits one at))
+    (λ one at. (end.4 ∙ (c.turn.ensures.at c.args.self.now.limits one at).client, rw (end.3, end.2, end.1) (c.in-Over.ensures.served c.args.self.now.limits one at)))
 
 pub returns-in-Over-clause-turned : goal.returns-in-Over-clause-turned
 returns-in-Over-clause-turned g c =

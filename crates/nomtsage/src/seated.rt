@@ -1,0 +1,125 @@
+//! A server of an address whose connections are in seats: the call that serves.
+ghost use Rattle.std.specs.Prelude.{◌≡◌, ◌×◌, [], None};
+ghost use Rattle.std.specs.Process.{exit_status};
+ghost use Rattle.nomtsage.specs.Running.{settings};
+ghost use Rattle.nomtsage.specs.Seats.{RanSeats, RunsSeats, RunsSeatsTo};
+
+use crate::engines::InSeats;
+use crate::fault::{ListenFault, ServeError};
+use crate::returning::result_of;
+use crate::seats::serve_in_seats;
+use crate::server::{Server, error_of, failed};
+use crate::stop::flag_of;
+use crate::tellers::Tells;
+use asgi_apps::Application;
+use asgi_conn::{Host, Report};
+use asgi_reactor::{Numbers, Polled, SocketReactor};
+use asgi_server::{OnEnd, Teller};
+use asgi_types::Limits;
+use asgi_ws::{Line, Wired};
+use log::{Log, info};
+use std::net::Net;
+use std::process::ExitCode;
+use std::time::{Clock, Duration};
+
+/// How long an idle turn of a connection takes, in seconds.
+const TICK: u64 = 1;
+
+/// For how many of them in a row a client may take nothing of what waits for it.
+const PATIENCE: u32 = 30;
+
+impl<'a, K: Teller<Report> + Drop, E: OnEnd + Drop> Server<'a, K, E, InSeats> {
+    /// Listens, starts the application, serves each connection, and stops the application once there are no more: after
+    /// the set number of connections, a pulled `Stop`, or an error. A line of the log has the address.
+    ///
+    /// The error names what could not be had or did not end well. If the address can't be listened on the application is
+    /// not started; if the application does not start, no connection is accepted.
+    pub fn run<'r, H: Net + Clock + Log + Host, A: Application>(
+        self,
+        rt: &'r H,
+        app: &A,
+    ) -> Result<(), ServeError>
+    where
+        'a: 'r,
+        ensures { RunsSeats ⟦<Wired<Polled> as Line>⟧.state K.tells (A.answers app.now)
+            (settings self.entry.address self.entry.workers self.entry.limits self.entry.on_report) result }
+    {
+        let Server {
+            address,
+            limits,
+            count,
+            stop,
+            on_report,
+            on_end,
+            workers: _none,
+            engines,
+        } = self;
+        let numbers = Numbers {
+            seats: engines.seats,
+            count,
+            tick: Duration::from_secs(TICK),
+            patience: PATIENCE,
+        };
+        let reactor = match SocketReactor::open(rt, rt.alloc(), address, &numbers, flag_of(stop)) {
+            Ok(reactor) => reactor,
+            Err(e) => {
+                return Err(ServeError::CannotListen {
+                    address,
+                    why: ListenFault(e),
+                });
+            }
+        };
+        let tells = Tells { on_report, on_end };
+        listened_in_seats(rt, &limits, numbers.seats, app, reactor, tells)
+    }
+
+    /// The same for a `main`: the error is written to the log, and the exit status is by it (`ServeError::status`).
+    pub fn serve<'r, H: Net + Clock + Log + Host, A: Application>(
+        self,
+        rt: &'r H,
+        app: &A,
+    ) -> ExitCode
+    where
+        'a: 'r,
+        ensures { RunsSeatsTo ⟦<Wired<Polled> as Line>⟧.state K.tells (A.answers app.now)
+            (settings self.entry.address self.entry.workers self.entry.limits self.entry.on_report) (exit_status result) }
+    {
+        match self.run(rt, app) {
+            Ok(()) => ExitCode::from(0),
+            Err(e) => failed(rt, e),
+        }
+    }
+}
+
+/// Serves the connections of a socket that is open, and that was asked for none yet.
+fn listened_in_seats<
+    'a,
+    H: Net + Clock + Log + Host,
+    A: Application,
+    E: OnEnd + Drop,
+    K: Teller<Report> + Drop,
+>(
+    rt: &'a H,
+    limits: &Limits,
+    seats: usize,
+    app: &A,
+    mut reactor: SocketReactor<'a, H>,
+    mut tells: Tells<K, E>,
+) -> Result<(), ServeError>
+    requires { reactor.told.items ≡ [] }
+    ensures { RanSeats ⟦<Wired<Polled> as Line>⟧.state K.tells (A.answers app.now) limits.now tells.on_report result }
+{
+    say_where(rt, &reactor);
+    let ending = serve_in_seats(rt, limits, seats, app, &mut reactor, &mut tells);
+    let why = error_of(reactor.why());
+    reactor.end();
+    result_of(ending, why)
+}
+
+/// Writes at which address the socket listens to the log.
+fn say_where<H: Net + Clock + Log>(rt: &H, reactor: &SocketReactor<'_, H>) {
+    let Ok(address) = reactor.address() else {
+        return;
+    };
+    info!(rt; "listening on http://{address}");
+}
