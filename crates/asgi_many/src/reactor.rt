@@ -50,6 +50,10 @@ pub trait Reactor {
     fn again(&mut self, at: usize)
         ensures told { answers self.new ≡ answers self.old };
 
+    /// The connection in this seat moved nothing in its turn: what was written for it is not to wait any longer.
+    fn rests(&mut self, at: usize, line: &Self::L)
+        ensures told { answers self.new ≡ answers self.old };
+
     /// The connection in this seat has ended, and the seat is free. Its line is closed once what was written has left.
     fn close(&mut self, at: usize, line: Self::L)
         ensures told { answers self.new ≡ answers self.old };

@@ -161,8 +161,17 @@ fn go_on<
     match table.turn(at, state, calls, runner) {
         Turned::NoOne => {}
         Turned::Moved => reactor.again(at),
-        Turned::Idle => {}
+        Turned::Idle => rests(table, at, reactor),
         Turned::Over(end) => over(at, end, reactor, teller),
+    }
+}
+
+/// The connection in this seat waits, and what it wrote leaves.
+fn rests<X, N: Reactor>(table: &Table<X, N::L>, at: usize, reactor: &mut N)
+    ensures { N.answers reactor.new ≡ N.answers reactor.old }
+{
+    if let Some(line) = table.line(at) {
+        reactor.rests(at, line);
     }
 }
 

@@ -85,6 +85,8 @@ impl Reactor for Drawn {
 
     fn again(&mut self, _at: usize) {}
 
+    fn rests(&mut self, _at: usize, _line: &Line) {}
+
     fn close(&mut self, _at: usize, line: Line) {
         let _kept = self.closed.push(line);
     }

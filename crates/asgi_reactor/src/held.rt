@@ -8,6 +8,9 @@ use asgi_io::is_passing;
 use std::alloc::{AllocError, Global};
 use std::io::{self, ErrorKind, Write};
 
+/// How many bytes wait at the most before they are pushed, unless the stream has no room.
+pub(crate) const JOINED: usize = 16_384;
+
 /// Bytes that wait to be written, in order.
 #[derive(Drop)]
 pub struct Held {
@@ -93,6 +96,19 @@ impl Held {
             Err(e) if is_passing(&e) => self.hold(buf),
             Err(e) => Err(e),
         }
+    }
+
+    /// The same, but while few bytes wait these wait with them, so that one push writes all.
+    pub fn join<W: Write>(&mut self, stream: &mut W, buf: &[u8]) -> io::Result<usize>
+        ensures bound { WritesAtMost result buf.now }
+        ensures bytes { WriteAppends (taken (W.contents stream.old) self.old.buf.items self.old.start) (taken (W.contents stream.new) self.new.buf.items self.new.start) result buf.now }
+    {
+        if buf.len() <= JOINED.saturating_sub(self.len()) {
+            if let Ok(()) = self.put(buf) {
+                return Ok(buf.len());
+            }
+        }
+        self.write(stream, buf)
     }
 
     /// All of these bytes wait.

@@ -66,7 +66,7 @@ impl Place {
             polled.may_be_read();
         }
         self.is_readable = false;
-        self.is_blocked = !polled.push();
+        self.is_blocked = polled.waits() && !polled.push();
         if self.is_blocked && self.is_stuck(polled, patience) {
             polled.give_up();
             self.is_blocked = false;

@@ -1,5 +1,5 @@
 //! A socket that never waits.
-use crate::held::Held;
+use crate::held::{Held, JOINED};
 use asgi_io::is_passing;
 use mio::net::TcpStream;
 use std::alloc::Global;
@@ -14,8 +14,9 @@ const DRAINED: usize = 4_096;
 const READS: u32 = 16;
 
 /// A socket that never waits. It is read only once it was told that something may be there, until a read found less than
-/// it had room for. What the socket does not take of a write is held, and counts as written: it goes out before anything
-/// else is read or written, once there is room. If memory for it is refused, a write takes only what the socket took.
+/// it had room for. What is written is held as long as it is little, and counts as written: it goes out in one write before
+/// anything is read, and where `push` says so. What the socket does not take waits for room, and goes out before anything
+/// else is read or written. If memory for it is refused, a write takes only what the socket took.
 #[derive(Drop)]
 pub struct Polled {
     stream: TcpStream,
@@ -24,6 +25,8 @@ pub struct Polled {
     is_readable: Cell<bool>,
     // The peer sends no more, or the socket failed: each read tells at once.
     is_ended: Cell<bool>,
+    // What is held waits for room.
+    waits: Cell<bool>,
     // Some of what was held has left since it was asked for.
     has_moved: Cell<bool>,
     // Nothing more can be written.
@@ -40,6 +43,7 @@ impl Polled {
             held: RefCell::new(Held::new(alloc)),
             is_readable: Cell::new(false),
             is_ended: Cell::new(false),
+            waits: Cell::new(false),
             has_moved: Cell::new(false),
             is_broken: Cell::new(false),
             is_shut: Cell::new(false),
@@ -57,8 +61,19 @@ impl Polled {
         self.is_ended.set(true);
     }
 
+    /// Whether some of what is held waits for room.
+    pub fn waits(&self) -> bool {
+        self.waits.get()
+    }
+
     /// Writes once what is held, and returns whether none of it waits for room: all of it is out, or can't be written any more.
     pub fn push(&self) -> bool {
+        let is_out = self.push_once();
+        self.waits.set(!is_out);
+        is_out
+    }
+
+    fn push_once(&self) -> bool {
         if self.is_broken.get() {
             return true;
         }
@@ -154,7 +169,13 @@ impl Read for Polled {
 
 impl Write for Polled {
     fn write(&mut self, buf: &[u8]) -> io::Result<usize> {
-        self.held.get_mut().write(&mut self.stream, buf)
+        if self.is_broken.get() {
+            return self.stream.write(buf);
+        }
+        let held = self.held.get_mut();
+        let wrote = held.join(&mut self.stream, buf);
+        self.waits.set(held.len() > JOINED);
+        wrote
     }
 
     fn flush(&mut self) -> io::Result<()> {

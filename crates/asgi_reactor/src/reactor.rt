@@ -361,6 +361,12 @@ impl<R: Clock> Reactor for SocketReactor<'_, R> {
         self.queue.again(at);
     }
 
+    fn rests(&mut self, _at: usize, line: &PolledLine) {
+        if let Some(polled) = line.stream() {
+            let _all = polled.push();
+        }
+    }
+
     fn close(&mut self, at: usize, line: PolledLine) {
         self.queue.close(at, line);
     }

@@ -153,6 +153,42 @@ fn bytes_stay_as_the_stream_fails(rt: HostRuntime) -> Result<(), Fail> {
     Ok(())
 }
 
+/// Whether few bytes wait for a push, which writes them at once, and what comes with many leaves at once behind them.
+fn are_joined(alloc: Global) -> io::Result<bool> {
+    let mut stream = Narrow::new(alloc, 65_536)?;
+    let mut held = Held::new(alloc);
+    let few = held.join(&mut stream, b"abc")? + held.join(&mut stream, b"def")?;
+    let waited = few == 6 && held.len() == 6 && stream.written.is_empty();
+    let pushed = held.push(&mut stream)? && stream.written.as_slice() == b"abcdef".as_slice();
+    let many = bytes_from(alloc, 0, 16_384)?;
+    let all = held.join(&mut stream, b"g")? == 1 && held.join(&mut stream, &many)? == 16_384;
+    Ok(waited && pushed && all && held.is_empty() && stream.written.len() == 16_391)
+}
+
+#[test]
+fn few_bytes_leave_together(rt: HostRuntime) -> Result<(), Fail> {
+    assert!(rt; are_joined(rt.alloc())?);
+    Ok(())
+}
+
+/// Whether bytes leave at once if there is no memory for them to wait.
+fn leave_or_wait(alloc: Global) -> io::Result<bool> {
+    let mut stream = Narrow::new(alloc, 65_536)?;
+    let mut held = Held::new(alloc);
+    let took = held.join(&mut stream, b"abc")?;
+    Ok(took == 3 && held.len() + stream.written.len() == 3)
+}
+
+#[test]
+fn memory_for_what_is_joined(rt: HostRuntime) -> Result<(), Fail> {
+    let holds = match leave_or_wait(rt.alloc()) {
+        Ok(holds) => holds,
+        Err(_) => leave_or_wait(rt.alloc())?,
+    };
+    assert!(rt; holds);
+    Ok(())
+}
+
 /// Whether as many bytes come out as the write says that it took.
 fn is_exact(alloc: Global) -> io::Result<bool> {
     let mut stream = Narrow::new(alloc, 4)?;

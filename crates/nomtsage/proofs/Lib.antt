@@ -1,3 +1,4 @@
 pub mod ServingLemmas
 pub mod LivesLemmas
 pub mod RunLemmas
+pub mod SeatsLemmas

@@ -1,0 +1,44 @@
+-- What a server in seats did, by what gets the reports alone.
+use Rattle.std.proofs.Common.{◌≡◌, ◌⊎◌, inl, inr, ap, ap₂, subst, ℕ, List, [], ◌∷◌, Option}
+use Rattle.std.specs.declared.io.Error.{Error}
+use Rattle.asgi_types.specs.declared.limits.Limits.{Limits}
+use Rattle.asgi_types.specs.declared.state.StateValue.{StateValue}
+use Rattle.asgi_ws.specs.Lines.{LineState}
+use Rattle.asgi_apps.specs.Promises.{Promise}
+use Rattle.asgi_desk.specs.Told.{Told}
+use Rattle.asgi_conversation.specs.declared.report.Report.{Report}
+use Rattle.asgi_many.specs.declared.reactor.Next.{Next}
+use Rattle.asgi_many.specs.declared.seat.Departure.{Departure}
+use Rattle.asgi_many.specs.declared.serving.Served as many_served
+use Rattle.asgi_many.specs.Serving.{ServesMany}
+use Rattle.nomtsage.specs.declared.ending.Served.{Served}
+use Rattle.nomtsage.specs.declared.ending.Served.TheVariants as served
+use Rattle.nomtsage.specs.Seats.{ServesSeats, of_reports, served_in}
+use Rattle.nomtsage.specs.Serving.{Around, around}
+
+module _ {K T : Type 0} (tells : K → K → ℕ → Report → Type 0) (part : T → K) where
+  -- what is told of one that ends, if a part of the teller gets its report
+  abbrev pub by_part : T → T → ℕ → Departure → Type 0
+  by_part was is number departure = tells (part was) (part is) number departure.report
+
+  told_part : (was is : T) (list : List (ℕ × Departure)) → Told by_part was is list → Told (of_reports tells) (part was) (part is) list
+  told_part was is [] same = ap part same
+  told_part was is (first ∷ list) (mid, this, rest) = (part mid, this, told_part mid is list rest)
+
+  -- the part got the reports, once each
+  pub served_part : {L : Type 0} (line_state : L → LineState) (promise : Promise) (limits : Limits) (state : List (List ℕ × StateValue))
+      (asked_old asked_new : List (Next L)) (was is : T) (how : many_served.Served)
+      → ServesMany by_part promise line_state limits state asked_old asked_new was is how
+      → ServesMany (of_reports tells) promise line_state limits state asked_old asked_new (part was) (part is) how
+  served_part line_state promise limits state asked_old asked_new was is how x = record {
+    answers = x.answers;
+    asked = x.asked;
+    ends = x.ends;
+    served = x.served;
+    told = told_part was is _ x.told;
+    all = x.all;
+  }
+
+-- nothing was asked for, and nothing told
+pub same_around : {Q K T : Type 0} (part : T → K) (asked_old asked_new : List Q) (was is : T) → asked_new ≡ asked_old → is ≡ was → around asked_new (part is) ≡ around asked_old (part was)
+same_around part asked_old asked_new was is asked same = ap₂ (λ a t. around a (part t)) asked same
