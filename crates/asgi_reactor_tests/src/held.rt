@@ -157,8 +157,9 @@ fn bytes_stay_as_the_stream_fails(rt: HostRuntime) -> Result<(), Fail> {
 fn are_joined(alloc: Global) -> io::Result<bool> {
     let mut stream = Narrow::new(alloc, 65_536)?;
     let mut held = Held::new(alloc);
-    let few = held.join(&mut stream, b"abc")? + held.join(&mut stream, b"def")?;
-    let waited = few == 6 && held.len() == 6 && stream.written.is_empty();
+    let first = held.join(&mut stream, b"abc")?;
+    let second = held.join(&mut stream, b"def")?;
+    let waited = first == 3 && second == 3 && held.len() == 6 && stream.written.is_empty();
     let pushed = held.push(&mut stream)? && stream.written.as_slice() == b"abcdef".as_slice();
     let many = bytes_from(alloc, 0, 16_384)?;
     let all = held.join(&mut stream, b"g")? == 1 && held.join(&mut stream, &many)? == 16_384;
@@ -176,7 +177,7 @@ fn leave_or_wait(alloc: Global) -> io::Result<bool> {
     let mut stream = Narrow::new(alloc, 65_536)?;
     let mut held = Held::new(alloc);
     let took = held.join(&mut stream, b"abc")?;
-    Ok(took == 3 && held.len() + stream.written.len() == 3)
+    Ok(took == 3 && held.len().saturating_add(stream.written.len()) == 3)
 }
 
 #[test]
