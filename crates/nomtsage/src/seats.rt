@@ -64,6 +64,7 @@ pub(crate) fn serve_in_seats<H: Host, R: Clock, A: Application, E: OnEnd, K: Tel
         × LivesOn (ServesSeats ⟦<Wired<Polled> as Line>⟧.state K.tells (A.answers app.now) seconds reactor.new.why) (A.answers app.now) limits.now
         (around reactor.old.told.items tells.old.on_report) (around reactor.new.told.items tells.new.on_report) result }
 {
+    let seconds = in_seconds(limits);
     let Ok(solo) = Solo::new(rt, Doorbell::spinning()) else {
         return Ending::NoMemory;
     };
@@ -74,7 +75,7 @@ pub(crate) fn serve_in_seats<H: Host, R: Clock, A: Application, E: OnEnd, K: Tel
     let mut cx = solo.begin();
     let answer = Lifespan::start(rt.alloc(), app, limits, &mut cx, &mut pause);
     let ending = follow(
-        rt, limits, seats, app, answer, reactor, &mut cx, &mut pause, tells,
+        rt, limits, &seconds, seats, app, answer, reactor, &mut cx, &mut pause, tells,
     );
     cx.cancel();
     ending
@@ -92,6 +93,7 @@ fn follow<
 >(
     rt: &H,
     limits: &Limits,
+    seconds: &Limits,
     seats: usize,
     app: &A,
     answer: Start<T>,
@@ -100,20 +102,18 @@ fn follow<
     pause: &mut P,
     tells: &mut Tells<K, E>,
 ) -> Ending
-    ensures { (seconds : Limits) × InSeconds limits.now seconds
-        × FollowsStart (ServesSeats ⟦<Wired<Polled> as Line>⟧.state K.tells (A.answers app.now) seconds reactor.new.why) limits.now answer
+    ensures { FollowsStart (ServesSeats ⟦<Wired<Polled> as Line>⟧.state K.tells (A.answers app.now) seconds.now reactor.new.why) limits.now answer
         (around reactor.old.told.items tells.old.on_report) (around reactor.new.told.items tells.new.on_report)
         (P.count pause.old) (P.count pause.new) result }
 {
-    let seconds = in_seconds(limits);
     match answer {
         Start::Started(lifespan, state) => {
-            let served = serve(rt, &seconds, seats, &state, app, reactor, tells);
+            let served = serve(rt, seconds, seats, &state, app, reactor, tells);
             ending_of(served, lifespan.stop(cx, pause))
         }
         Start::Unsupported => {
             let state = State::new(rt.alloc());
-            let served = serve(rt, &seconds, seats, &state, app, reactor, tells);
+            let served = serve(rt, seconds, seats, &state, app, reactor, tells);
             ending_of(served, Stop::Stopped)
         }
         Start::Failed(message) => Ending::StartupFailed(message),
