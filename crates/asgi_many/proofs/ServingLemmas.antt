@@ -1,5 +1,5 @@
 -- What holds of a server after one of its steps.
-use Rattle.std.proofs.Common.{◌≡◌, ◌≢◌, ℕ, zero, suc, ◌+◌, List, [], ◌∷◌, ◌++◌, length, map, Option, Some, None, refl, sym, ap, ◌∙◌, inl, inr, subst, slice_get, append_assoc, append-nil}
+use Rattle.std.proofs.Common.{◌≡◌, ℕ, ◌+◌, List, [], ◌∷◌, ◌++◌, map, Option, Some, None, refl, sym, ap, ◌∙◌, inl, inr, subst, slice_get, append_assoc, append-nil}
 use Rattle.std.specs.Prelude.{slice_set}
 use Rattle.asgi_types.specs.declared.end_kind.EndKind.{EndKind}
 use Rattle.asgi_types.specs.declared.incoming.Incoming.{Incoming}
@@ -21,12 +21,9 @@ use Rattle.asgi_many.specs.declared.seat.Newcomer.{Newcomer}
 use Rattle.asgi_many.specs.declared.serving.Served.{Served}
 use Rattle.asgi_many.specs.declared.serving.Served.TheVariants.{All, TooLong}
 use Rattle.asgi_many.specs.declared.table.Table.{Table}
-use Rattle.asgi_many.specs.declared.table.Turned.{Turned}
-use Rattle.asgi_many.specs.declared.table.Turned.TheVariants.{NoOne, Moved, Idle, Over}
 use Rattle.asgi_many.specs.Seats.{KeepsEnds}
 use Rattle.asgi_many.specs.Serving.{Adds, Going, ServesMany, Sits, came_in, departure_of, end_number, told_of}
-use Rattle.asgi_many.specs.Standing.{Holds, IsAt, IsEmpty, IsServed, number_of}
-use Rattle.asgi_many.specs.Turns.{ended_after}
+use Rattle.asgi_many.specs.Standing.{Holds, IsEmpty, IsServed, number_of}
 use Rattle.asgi_many.proofs.EndLemmas as ended
 use Rattle.asgi_many.proofs.TableLemmas as tables
 

@@ -1,5 +1,5 @@
 -- What a turn of a named seat did.
-use Rattle.std.specs.Prelude.{◌≡◌, ◌≢◌, ℕ, ⊤, List, Option, Some, None, IsSomeAnd, slice_set}
+use Rattle.std.specs.Prelude.{◌≡◌, ⊤, List, Option, Some, None, IsSomeAnd, slice_set}
 use Rattle.asgi_conn.specs.Standing.{TakesOne}
 use Rattle.asgi_many.specs.declared.seat.Ended.{Ended}
 use Rattle.asgi_many.specs.declared.seat.Seat.{Seat}
