@@ -32,7 +32,7 @@ const MOST_WORKERS: u64 = 8;
 #[derive(Drop)]
 pub struct Server<'a, K: Drop, E: Drop, G: Drop> {
     pub(crate) address: SocketAddr,
-    workers: Option<u64>,
+    pub(crate) workers: Option<u64>,
     pub(crate) limits: Limits,
     pub(crate) count: u64,
     pub(crate) stop: Option<&'a Stop>,
