@@ -1,5 +1,5 @@
 //! A server of an address whose connections are in seats: the call that serves.
-ghost use Rattle.std.specs.Prelude.{◌≡◌, ◌×◌, [], None};
+ghost use Rattle.std.specs.Prelude.{◌≡◌, []};
 ghost use Rattle.std.specs.Process.{exit_status};
 ghost use Rattle.nomtsage.specs.Running.{settings};
 ghost use Rattle.nomtsage.specs.Seats.{RanSeats, RunsSeats, RunsSeatsTo};
