@@ -1,5 +1,6 @@
 -- What a server in seats did, by what gets the reports alone.
-use Rattle.std.proofs.Common.{◌≡◌, ◌⊎◌, inl, inr, ap, ap₂, subst, ℕ, List, [], ◌∷◌, Option}
+use Rattle.std.proofs.Common.{◌≡◌, ap, ap₂, subst, ℕ, List, [], ◌∷◌, Option, Result}
+use Rattle.std.specs.Prelude.{IfSome}
 use Rattle.std.specs.declared.io.Error.{Error}
 use Rattle.asgi_types.specs.declared.limits.Limits.{Limits}
 use Rattle.asgi_types.specs.declared.state.StateValue.{StateValue}
@@ -11,10 +12,11 @@ use Rattle.asgi_many.specs.declared.reactor.Next.{Next}
 use Rattle.asgi_many.specs.declared.seat.Departure.{Departure}
 use Rattle.asgi_many.specs.declared.serving.Served as many_served
 use Rattle.asgi_many.specs.Serving.{ServesMany}
-use Rattle.nomtsage.specs.declared.ending.Served.{Served}
-use Rattle.nomtsage.specs.declared.ending.Served.TheVariants as served
-use Rattle.nomtsage.specs.Seats.{ServesSeats, of_reports, served_in}
-use Rattle.nomtsage.specs.Serving.{Around, around}
+use Rattle.nomtsage.specs.declared.ending.Ending.{Ending}
+use Rattle.nomtsage.specs.declared.fault.ServeError.{ServeError}
+use Rattle.nomtsage.specs.Running.{IsResultOf}
+use Rattle.nomtsage.specs.Seats.{InSeconds, RanSeats, ServesSeats, of_reports}
+use Rattle.nomtsage.specs.Serving.{LivesOn, around}
 
 module _ {K T : Type 0} (tells : K → K → ℕ → Report → Type 0) (part : T → K) where
   -- what is told of one that ends, if a part of the teller gets its report
@@ -42,3 +44,21 @@ module _ {K T : Type 0} (tells : K → K → ℕ → Report → Type 0) (part : 
 -- nothing was asked for, and nothing told
 pub same_around : {Q K T : Type 0} (part : T → K) (asked_old asked_new : List Q) (was is : T) → asked_new ≡ asked_old → is ≡ was → around asked_new (part is) ≡ around asked_old (part was)
 same_around part asked_old asked_new was is asked same = ap₂ (λ a t. around a (part t)) asked same
+
+-- what a server in seats did that had been asked for nothing before
+pub ran_seats : {L K : Type 0} (line_state : L → LineState) (tells : K → K → ℕ → Report → Type 0) (answers : Promise) (limits seconds : Limits)
+    (was asked : List (Next L)) (teller told : K) (why : Option Error) (ends : Ending) (given : Error) (result : Result (Unit {0}) ServeError) → was ≡ []
+    → InSeconds limits seconds → LivesOn (ServesSeats line_state tells answers seconds why) answers limits (around was teller) (around asked told) ends
+    → IfSome why (λ e. given ≡ e) → IsResultOf ends given result → RanSeats line_state tells answers limits teller result
+ran_seats {L} line_state tells answers limits seconds was asked teller told why ends given result none in_seconds serves is_why is = record {
+  asked = asked;
+  told = told;
+  why = why;
+  seconds = seconds;
+  in_seconds = in_seconds;
+  ends = ends;
+  serves = subst (λ (l : List (Next L)). LivesOn (ServesSeats line_state tells answers seconds why) answers limits (around l teller) (around asked told) ends) none serves;
+  given = given;
+  is_why = is_why;
+  result_is = is;
+}

@@ -73,12 +73,41 @@ pub(crate) fn serve_in_seats<H: Host, R: Clock, A: Application, E: OnEnd, K: Tel
     };
     let mut pause = Napping::new(*rt, here);
     let mut cx = solo.begin();
-    let answer = Lifespan::start(rt.alloc(), app, limits, &mut cx, &mut pause);
-    let ending = follow(
-        rt, limits, &seconds, seats, app, answer, reactor, &mut cx, &mut pause, tells,
+    let ending = live(
+        rt, limits, &seconds, seats, app, reactor, &mut cx, &mut pause, tells,
     );
     cx.cancel();
     ending
+}
+
+/// Starts the application, serves, and stops it.
+fn live<
+    H: Host,
+    R: Clock,
+    T: AppTask,
+    A: Application<Task = T>,
+    E: OnEnd,
+    P: Pause,
+    K: Teller<Report>,
+>(
+    rt: &H,
+    limits: &Limits,
+    seconds: &Limits,
+    seats: usize,
+    app: &A,
+    reactor: &mut SocketReactor<'_, R>,
+    cx: &mut Context<'_>,
+    pause: &mut P,
+    tells: &mut Tells<K, E>,
+) -> Ending
+    ensures { LivesOrNot (ServesSeats ⟦<Wired<Polled> as Line>⟧.state K.tells (A.answers app.now) seconds.now reactor.new.why) (A.answers app.now) limits.now
+        (around reactor.old.told.items tells.old.on_report) (around reactor.new.told.items tells.new.on_report)
+        (P.count pause.old) (P.count pause.new) result }
+{
+    let answer = Lifespan::start(rt.alloc(), app, limits, cx, pause);
+    follow(
+        rt, limits, seconds, seats, app, answer, reactor, cx, pause, tells,
+    )
 }
 
 /// What comes after the start, by its answer: serves and stops the application if it started.

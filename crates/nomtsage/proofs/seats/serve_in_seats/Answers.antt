@@ -1,13 +1,16 @@
 use Rattle.std.proofs.Common.{inl, inr, refl}
-use Rattle.nomtsage.proofs.LivesLemmas.{lives_of, uncounted}
 use Rattle.nomtsage.proofs.seats.serve_in_seats.Goals as goal
 
 pub returns : goal.returns
 returns g c = (
   c.in_seconds-seconds.result,
   c.in_seconds-seconds.ensures,
-  inl (
-    _,
-    lives_of _ (g.A.Application.answers c.args.app.now) c.args.limits.now _ _ _ _ _ _ _ c.start-answer.result (uncounted _ _ _ c.start-answer.ensures.starts) c.follow-ending.ensures,
-  ),
+  inl (c.live-ending.new.pause.count, rw c.new-pause.ensures at c.live-ending.ensures),
 )
+
+-- nothing was begun for want of memory
+pub returns-in_default : goal.returns-in_default
+returns-in_default g c = (c.in_seconds-seconds.result, c.in_seconds-seconds.ensures, inr (refl, inl refl))
+
+pub returns-in_default-pair : goal.returns-in_default-pair
+returns-in_default-pair g c = (c.in_seconds-seconds.result, c.in_seconds-seconds.ensures, inr (refl, inl refl))
