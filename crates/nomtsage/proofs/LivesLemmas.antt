@@ -7,14 +7,13 @@ use Rattle.asgi_types.specs.declared.outgoing.Outgoing.{Outgoing}
 use Rattle.asgi_apps.specs.declared.task.AppTask as tasks
 use Rattle.asgi_types.specs.declared.state.StateValue.{StateValue}
 use Rattle.asgi_apps.specs.Promises.{Promise}
-use Rattle.asgi_lifespan.specs.declared.lifespan.Lifespan.{Lifespan}
 use Rattle.asgi_lifespan.specs.declared.lifespan.Start.{Start}
 use Rattle.asgi_lifespan.specs.declared.lifespan.Start.TheVariants as start
 use Rattle.asgi_lifespan.specs.declared.stop.Stop.{Stop}
 use Rattle.asgi_lifespan.specs.declared.stop.Stop.TheVariants as stop
 use Rattle.asgi_lifespan.specs.Facts.{lifespan_scope}
 use Rattle.asgi_lifespan.specs.Lifespan.{StartAnswer, started, failed, unsupported, start_answer}
-use Rattle.asgi_lifespan.specs.Starting.{Starts, StandsFor, PromiseOf, IsNoMemory, turns_in}
+use Rattle.asgi_lifespan.specs.Starting.{Starts, PromiseOf, IsNoMemory, turns_in}
 use Rattle.asgi_lifespan.specs.Stopping.{Stops}
 use Rattle.nomtsage.specs.declared.ending.Ending.{Ending}
 use Rattle.nomtsage.specs.declared.ending.Served.{Served}

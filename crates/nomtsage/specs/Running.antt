@@ -13,7 +13,7 @@ use Rattle.nomtsage.specs.declared.ending.Ending.TheVariants as ending
 use Rattle.nomtsage.specs.declared.fault.ListenFault.{ListenFault}
 use Rattle.nomtsage.specs.declared.fault.ServeError.{ServeError}
 use Rattle.nomtsage.specs.declared.fault.ServeError.TheVariants as error
-use Rattle.nomtsage.specs.Serving.{Around, around, ServesOn}
+use Rattle.nomtsage.specs.Serving.{around, ServesOn}
 
 -- the result of a server that ended so; `why` is the error of its listener if that failed
 abbrev pub IsResultOf : Ending → Error → Result (Unit {0}) ServeError → Type 0

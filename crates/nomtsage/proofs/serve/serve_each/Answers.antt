@@ -1,4 +1,4 @@
-use Rattle.std.proofs.Common.{◌≡◌, ◌∙◌, ap, subst, map, sym, ℕ, List, replicate}
+use Rattle.std.proofs.Common.{◌∙◌, ap, subst, map, sym, ℕ, List, replicate}
 use Rattle.asgi_crew.specs.Ran.{last_of}
 use Rattle.asgi_crew.specs.Shared.{IsShared}
 use Rattle.asgi_server.specs.Connections.{served_by}
