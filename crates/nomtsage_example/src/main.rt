@@ -8,9 +8,12 @@ mod words;
 
 use ends::Ends;
 use fails::Fails;
-use nomtsage::{BadLimit, Handled, Hello, Life, Limits, Server, Stop};
+use log::Log;
+use nomtsage::{BadLimit, Handled, Hello, Host, Life, Limits, Server, Stop};
 use std::io;
+use std::net::Net;
 use std::process::ExitCode;
+use std::time::Clock;
 use words::{App, Seated, Served, Words, usage, words_of};
 
 fn main(rt: HostRuntime) -> ExitCode {
@@ -46,7 +49,7 @@ fn main(rt: HostRuntime) -> ExitCode {
 }
 
 /// Serves the application in seats.
-fn seated(rt: &HostRuntime, words: &Words, app: Seated) -> ExitCode {
+fn seated<H: Net + Clock + Log + Host>(rt: &H, words: &Words, app: Seated) -> ExitCode {
     let stop = Stop::new();
     let server = Server::at(words.address)
         .connections(words.count)
