@@ -73,17 +73,17 @@ module _ {L P : Type 0} (line_state : L → LineState) (answers : Promise) (limi
 
   -- nothing was asked for, and nothing printed
   kept_of : lib.around more q ≡ lib.around asked p → around more (at q) ≡ around asked (at p)
-  kept_of same = ap (λ (o : lib.Around L P). around o.asked (at o.teller)) same
+  kept_of same = ap (λ (o : lib.Around (Option (Given L)) P). around o.asked (at o.teller)) same
 
   unsaid : lib.around more q ≡ lib.around asked p → told q ≡ true
-  unsaid same = ap (λ (o : lib.Around L P). told o.teller) same ∙ begins
+  unsaid same = ap (λ (o : lib.Around (Option (Given L)) P). told o.teller) same ∙ begins
 
   -- the end of one that was not served
   unserved : (ends : Ended) (ending : Ending) (named : Ended) → lib.around more q ≡ lib.around asked p → ends ≡ named → ending ≡ ending_with (told q) ends → ending ≡ ending_with true named
   unserved ends ending named same is of = of ∙ ap (ending_with (told q)) is ∙ ap (λ (b : Bool). ending_with b named) (unsaid same)
 
   follows_of : (answer : Option StartAnswer) (heard : List Incoming) (said : List Outgoing) (before after : ℕ) (ends : Ended) (ending : Ending) → ending ≡ ending_with (told q) ends
-      → lib.Follows line_state tells answers limits workers has_failed answer heard said (lib.around asked p) (lib.around more q) before after ends
+      → lib.Follows (lib.ServesEach line_state tells answers limits workers has_failed) answers limits answer heard said (lib.around asked p) (lib.around more q) before after ends
       → Follows line_state answers limits workers has_failed answer heard said (around asked (at p)) (around more (at q)) before after ending
   follows_of (Some (started state)) heard said before after ends ending of (how, answer, x, stops, is) =
       (well_of x, answer, each_of state how x, stops, ended_by state how x answer ends ending is of)
@@ -94,7 +94,7 @@ module _ {L P : Type 0} (line_state : L → LineState) (answers : Promise) (limi
   follows_of None heard said before after ends ending of (same, rests, is) = (kept_of same, rests, unserved ends ending ended.NoStartup same is of)
 
   lives_of : (before after : ℕ) (ends : Ended) (ending : Ending) → ending ≡ ending_with (told q) ends
-      → lib.LivesOrNot line_state tells answers limits workers has_failed (lib.around asked p) (lib.around more q) before after ends
+      → lib.LivesOrNot (lib.ServesEach line_state tells answers limits workers has_failed) answers limits (lib.around asked p) (lib.around more q) before after ends
       → LivesOrNot line_state answers limits workers has_failed (around asked (at p)) (around more (at q)) before after ending
   lives_of before after ends ending of (inl x) = inl record {
     heard = x.heard;
@@ -119,18 +119,18 @@ module _ {L P : Type 0} (line_state : L → LineState) (answers : Promise) (limi
 
 -- what each report leaves of a teller as it is is so after the server
 module _ {L P X : Type 0} (line_state : L → LineState) (answers : Promise) (limits : Limits) (workers : ℕ) (has_failed : Bool)
-    (tells : P → P → ℕ → Report → Type 0) (part : P → X) (keeps : (was is : P) (n : ℕ) (r : Report) → tells was is n r → part is ≡ part was) (old new : lib.Around L P) where
+    (tells : P → P → ℕ → Report → Type 0) (part : P → X) (keeps : (was is : P) (n : ℕ) (r : Report) → tells was is n r → part is ≡ part was) (old new : lib.Around (Option (Given L)) P) where
   kept_in : (answer : Option StartAnswer) (heard : List Incoming) (said : List Outgoing) (before after : ℕ) (ends : Ended)
-      → lib.Follows line_state tells answers limits workers has_failed answer heard said old new before after ends → part new.teller ≡ part old.teller
+      → lib.Follows (lib.ServesEach line_state tells answers limits workers has_failed) answers limits answer heard said old new before after ends → part new.teller ≡ part old.teller
   kept_in (Some (started state)) heard said before after ends (how, answer, x, stops, is) = stays tells part keeps old.teller new.teller x.reports x.told
   kept_in (Some unsupported) heard said before after ends (how, x, rests, is) = stays tells part keeps old.teller new.teller x.reports x.told
-  kept_in (Some (failed message)) heard said before after ends (same, rests, is) = ap (λ (o : lib.Around L P). part o.teller) same
-  kept_in None heard said before after ends (same, rests, is) = ap (λ (o : lib.Around L P). part o.teller) same
+  kept_in (Some (failed message)) heard said before after ends (same, rests, is) = ap (λ (o : lib.Around (Option (Given L)) P). part o.teller) same
+  kept_in None heard said before after ends (same, rests, is) = ap (λ (o : lib.Around (Option (Given L)) P). part o.teller) same
 
   pub part_stays : (ends : Ended) → lib.ServesOn line_state tells answers limits workers has_failed old new ends → part new.teller ≡ part old.teller
   part_stays ends (inl (pauses, inl x)) = kept_in (start_answer x.said x.ended) x.heard x.said x.between pauses ends x.follows
-  part_stays ends (inl (pauses, inr (same, rests, is))) = ap (λ (o : lib.Around L P). part o.teller) same
-  part_stays ends (inr (same, is)) = ap (λ (o : lib.Around L P). part o.teller) same
+  part_stays ends (inl (pauses, inr (same, rests, is))) = ap (λ (o : lib.Around (Option (Given L)) P). part o.teller) same
+  part_stays ends (inr (same, is)) = ap (λ (o : lib.Around (Option (Given L)) P). part o.teller) same
 
 -- and what went wrong was written
 pub served_on : {L : Type 0} (line_state : L → LineState) (answers : Promise) (limits : Limits) (workers : ℕ) (has_failed : Bool) (old new : Around L) (errors_old errors_new : Writer)

@@ -123,7 +123,9 @@ fn ending_with(told: bool, ended: Ended) -> Ending
         Ended::NoStartup => Ending::NoStartup,
         Ended::ShutdownFailed(message) => Ending::ShutdownFailed(message),
         Ended::NoShutdown => Ending::NoShutdown,
-        Ended::ListenerFailed | Ended::NoMemory | Ended::NoThread => Ending::DeviceFault,
+        Ended::ListenerFailed | Ended::NoMemory | Ended::NoThread | Ended::TooLong => {
+            Ending::DeviceFault
+        }
     }
 }
 

@@ -20,6 +20,7 @@ ending_with true ended.NoShutdown = NoShutdown
 ending_with true ended.ListenerFailed = DeviceFault
 ending_with true ended.NoMemory = DeviceFault
 ending_with true ended.NoThread = DeviceFault
+ending_with true ended.TooLong = DeviceFault
 
 module _ {L : Type 0} (line_state : L → LineState) (answers : Promise) (limits : Limits) (workers : ℕ) (has_failed : Bool) where
   -- the application lived to this end, or nothing can run a task, and the listener was not asked
