@@ -7,6 +7,7 @@ ghost use Rattle.asgi_desk.specs.Seat.{knows, IsSeatOf};
 
 use asgi_desk::{Desk, Place, Seat, Teller};
 use std::alloc::{AllocError, Global};
+use std::process::Abort;
 use std::sync::Wait;
 use std::sync::atomic::{AtomicU64, Ordering};
 
@@ -81,6 +82,31 @@ pub fn hand_in_all<T: Teller<u64> + Drop, R: Wait>(
         hand_in(rt, alloc, desk, &mut seat, numbers[index])?;
     }
     Ok(seat)
+}
+
+/// What became of this teller: one thread handed in the reports of these numbers to it, and looked after each how many it
+/// got.
+pub fn told<T: Teller<u64> + Drop, R: Wait + Abort>(
+    rt: &R,
+    alloc: Global,
+    teller: T,
+    heard: &AtomicU64,
+    order: &[u64],
+) -> Result<T, AllocError> {
+    let Ok((desk, mut seat)) = Desk::open(rt, alloc, teller) else {
+        return Err(AllocError);
+    };
+    for index in 0..order.len() {
+        hand_in(rt, alloc, &desk, &mut seat, order[index])?;
+        assert_eq!(rt;
+            heard.load(Ordering::SeqCst),
+            run_of(&order[..index + 1]),
+            "told after {index}"
+        );
+    }
+    assert!(rt; is_one_to(alloc, order)?, "an order of 1, 2, 3 ..");
+    let (teller, _reports) = desk.close(rt, seat);
+    Ok(teller)
 }
 
 /// Whether these are the numbers 1, 2, 3 .., in some order.

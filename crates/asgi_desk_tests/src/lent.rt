@@ -1,14 +1,15 @@
 //! A teller that only borrows what it writes to.
-ghost use Rattle.std.specs.Prelude.{◌≡◌, [], ◌∷◌, ◌++◌};
 
-use crate::fakes::{hand_in, is_one_to};
-use asgi_desk::{Desk, Teller};
-use std::alloc::{AllocError, Global};
+use crate::fakes::told;
+use asgi_desk::Teller;
+use std::alloc::Global;
+use std::sync::atomic::{AtomicU64, Ordering};
 use std::test::Fail;
 
-/// Writes each number that it gets to what it borrows.
+/// Writes each number that it gets to what it borrows, and shows how many it got.
 #[derive(Drop)]
 struct Clerk<'a> {
+    heard: &'a AtomicU64,
     lines: &'a mut Vec<u64>,
 }
 
@@ -18,22 +19,20 @@ impl<'a> Teller<u64> for Clerk<'a> {
     fn tell(&mut self, number: u64, report: &u64) {
         // There is room.
         let _room = self.lines.push(number);
+        self.heard.fetch_add(1, Ordering::SeqCst);
     }
 }
 
 #[test]
 fn a_teller_may_borrow_what_it_writes_to(rt: HostRuntime) -> Result<(), Fail> {
     let alloc: Global = rt.alloc();
+    let heard = AtomicU64::new(0);
     let mut lines = Vec::with_capacity(alloc, 3)?;
-    let clerk = Clerk { lines: &mut lines };
-    let Ok((desk, mut seat)) = Desk::open(&rt, alloc, clerk) else {
-        return Err(Fail::from(AllocError));
+    let clerk = Clerk {
+        heard: &heard,
+        lines: &mut lines,
     };
-    hand_in(&rt, alloc, &desk, &mut seat, 3)?;
-    hand_in(&rt, alloc, &desk, &mut seat, 1)?;
-    hand_in(&rt, alloc, &desk, &mut seat, 2)?;
-    assert!(rt; is_one_to(alloc, &[3, 1, 2])?);
-    let (clerk, _reports) = desk.close(&rt, seat);
+    let clerk = told(&rt, alloc, clerk, &heard, &[3, 1, 2])?;
     drop(clerk);
     assert_eq!(rt; lines.as_slice(), [1, 2, 3].as_slice());
     Ok(())

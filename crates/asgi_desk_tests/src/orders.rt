@@ -1,12 +1,10 @@
 //! One thread hands in reports in many orders: the teller gets each as soon as all those before it are there.
-ghost use Rattle.std.specs.Prelude.{◌≡◌, ◌+◌, ◌<◌, [], ◌++◌};
 
-use crate::fakes::{Listener, hand_in, is_in_order, is_one_to, run_of};
-use asgi_desk::Desk;
+use crate::fakes::{Listener, is_in_order, told};
 use std::alloc::{AllocError, AllocGlobal, Global};
 use std::process::Abort;
 use std::sync::Wait;
-use std::sync::atomic::{AtomicU64, Ordering};
+use std::sync::atomic::AtomicU64;
 use std::test::Fail;
 
 /// Orders of up to six reports.
@@ -30,19 +28,7 @@ pub fn tells<R: Wait + Abort + AllocGlobal>(rt: &R, order: &[u64]) -> Result<(),
     let alloc: Global = rt.alloc();
     let heard = AtomicU64::new(0);
     let listener = Listener::new(alloc, &heard, order.len())?;
-    let Ok((desk, mut seat)) = Desk::open(rt, alloc, listener) else {
-        return Err(AllocError);
-    };
-    for index in 0..order.len() {
-        hand_in(rt, alloc, &desk, &mut seat, order[index])?;
-        assert_eq!(rt;
-            heard.load(Ordering::SeqCst),
-            run_of(&order[..index + 1]),
-            "told after {index}"
-        );
-    }
-    assert!(rt; is_one_to(alloc, order)?, "an order of 1, 2, 3 ..");
-    let (listener, _reports) = desk.close(rt, seat);
+    let listener = told(rt, alloc, listener, &heard, order)?;
     assert!(rt; is_in_order(&listener.numbers), "told");
     assert_eq!(rt; listener.numbers.len(), order.len());
     Ok(())

@@ -1,7 +1,8 @@
 //! Four threads hand in reports, and one teller gets each once, in order.
-ghost use Rattle.std.specs.Prelude.{◌≡◌, ◌+◌, ◌<◌, [], ◌++◌, IfOk};
+ghost use Rattle.std.specs.Prelude.{◌≡◌, ◌+◌, ◌<◌, true, [], ◌++◌, length, IfOk};
+ghost use Rattle.std.specs.List.Sorted.{IsPermutation};
 ghost use denote.Param.Send.{IsSync};
-ghost use Rattle.asgi_desk.specs.Told.{numbers_of};
+ghost use Rattle.asgi_desk.specs.Told.{numbers_of, one_to};
 ghost use Rattle.asgi_desk.specs.Hands.{seated, IsFree};
 ghost use Rattle.asgi_desk.specs.Seat.{knows, IsSeatOf};
 
@@ -118,6 +119,39 @@ fn by_four<T: Teller<u64> + Drop + Send, R: Threads + Wait + Sync>(
     Ok(seat)
 }
 
+/// Whether these, together, are the numbers 1, 2, 3 .., in some order.
+fn are_one_to(
+    alloc: Global,
+    left: (&[u64], &[u64]),
+    right: (&[u64], &[u64]),
+) -> Result<bool, AllocError>
+    ensures { IfOk result (λ b. b ≡ true → IsPermutation (one_to (length ((left.entry.0.now ++ left.entry.1.now) ++ (right.entry.0.now ++ right.entry.1.now)))) ((left.entry.0.now ++ left.entry.1.now) ++ (right.entry.0.now ++ right.entry.1.now))) }
+{
+    let mut numbers = Vec::new(alloc);
+    numbers.extend_from_slice(left.0)?;
+    numbers.extend_from_slice(left.1)?;
+    numbers.extend_from_slice(right.0)?;
+    numbers.extend_from_slice(right.1)?;
+    is_one_to(alloc, &numbers)
+}
+
+/// What became of this teller: four threads handed in these reports to it.
+fn told<T: Teller<u64> + Drop + Send, R: Threads + Wait + Sync + Abort>(
+    rt: &R,
+    alloc: Global,
+    teller: T,
+    left: (&[u64], &[u64]),
+    right: (&[u64], &[u64]),
+) -> Result<T, AllocError> {
+    let Ok((desk, seat)) = Desk::open(rt, alloc, teller) else {
+        return Err(AllocError);
+    };
+    let seat = by_four(rt, alloc, &desk, seat, left, right)?;
+    assert!(rt; are_one_to(alloc, left, right)?, "an order of 1, 2, 3 ..");
+    let (teller, _reports) = desk.close(rt, seat);
+    Ok(teller)
+}
+
 fn tells<R: Threads + Wait + Sync + Abort + AllocGlobal>(
     rt: &R,
     row: &Row,
@@ -125,18 +159,8 @@ fn tells<R: Threads + Wait + Sync + Abort + AllocGlobal>(
     let alloc: Global = rt.alloc();
     let heard = AtomicU64::new(0);
     let listener = Listener::new(alloc, &heard, 40)?;
-    let Ok((desk, seat)) = Desk::open(rt, alloc, listener) else {
-        return Err(AllocError);
-    };
-    let mut numbers = Vec::new(alloc);
     let [a, b, c, d] = row;
-    numbers.extend_from_slice(a)?;
-    numbers.extend_from_slice(b)?;
-    numbers.extend_from_slice(c)?;
-    numbers.extend_from_slice(d)?;
-    let seat = by_four(rt, alloc, &desk, seat, (a, b), (c, d))?;
-    assert!(rt; is_one_to(alloc, &numbers)?, "an order of 1, 2, 3 ..");
-    let (listener, _reports) = desk.close(rt, seat);
+    let listener = told(rt, alloc, listener, (a, b), (c, d))?;
     assert!(rt; is_in_order(&listener.numbers), "told");
     assert_eq!(rt; listener.numbers.len(), 40);
     assert_eq!(rt; heard.load(Ordering::SeqCst), 40);
