@@ -93,6 +93,7 @@ pub fn told<T: Teller<u64> + Drop, R: Wait + Abort>(
     heard: &AtomicU64,
     order: &[u64],
 ) -> Result<T, AllocError> {
+    assert!(rt; is_one_to(alloc, order)?, "an order of 1, 2, 3 ..");
     let Ok((desk, mut seat)) = Desk::open(rt, alloc, teller) else {
         return Err(AllocError);
     };
@@ -104,7 +105,6 @@ pub fn told<T: Teller<u64> + Drop, R: Wait + Abort>(
             "told after {index}"
         );
     }
-    assert!(rt; is_one_to(alloc, order)?, "an order of 1, 2, 3 ..");
     let (teller, _reports) = desk.close(rt, seat);
     Ok(teller)
 }

@@ -143,11 +143,11 @@ fn told<T: Teller<u64> + Drop + Send, R: Threads + Wait + Sync + Abort>(
     left: (&[u64], &[u64]),
     right: (&[u64], &[u64]),
 ) -> Result<T, AllocError> {
+    assert!(rt; are_one_to(alloc, left, right)?, "an order of 1, 2, 3 ..");
     let Ok((desk, seat)) = Desk::open(rt, alloc, teller) else {
         return Err(AllocError);
     };
     let seat = by_four(rt, alloc, &desk, seat, left, right)?;
-    assert!(rt; are_one_to(alloc, left, right)?, "an order of 1, 2, 3 ..");
     let (teller, _reports) = desk.close(rt, seat);
     Ok(teller)
 }
