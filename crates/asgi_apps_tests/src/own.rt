@@ -181,15 +181,25 @@ impl RepeatedTask {
         if more_body {
             return Ok(());
         }
-        let mut says = Says::with_room(self.alloc, Kind::Http, 2)?;
-        says.add(start(self.alloc))?;
-        says.add(Outgoing::ResponseBody {
-            body: Octets::new(Vec::from_slice(self.alloc, self.body.as_slice())?),
-            more_body: false,
-        })?;
-        self.says = Some(says);
+        self.says = Some(response(self.alloc, &self.body)?);
         Ok(())
     }
+}
+
+/// A response with this content.
+fn response(alloc: Global, content: &[u8]) -> Result<Says, AllocError> {
+    let mut says = Says::with_room(alloc, Kind::Http, 2)?;
+    add_whole(&mut says, alloc, content)?;
+    Ok(says)
+}
+
+fn add_whole(says: &mut Says, alloc: Global, content: &[u8]) -> Result<(), AllocError> {
+    says.add(start(alloc))?;
+    let body = Octets::new(Vec::from_slice(alloc, content)?);
+    says.add(Outgoing::ResponseBody {
+        body,
+        more_body: false,
+    })
 }
 
 impl AppTask for RepeatedTask {
@@ -283,13 +293,20 @@ impl Application for Returns {
     }
 }
 
+impl ReturnsTask {
+    /// The event is sent next.
+    fn keep(&mut self, event: Outgoing) {
+        self.waiting = Some(event);
+    }
+}
+
 impl AppTask for ReturnsTask {
     fn poll<E: AppEnd>(&mut self, cx: &mut Context<'_>, end: &mut E) -> Poll<Result<(), AppFault>> {
         if let Some(event) = self.waiting.take() {
             return match end.poll_send(cx, event) {
                 Sent::Done => cx.yield_now(),
                 Sent::Full(event) => {
-                    self.waiting = Some(event);
+                    self.keep(event);
                     Poll::Pending
                 }
                 _ => Poll::Ready(Ok(())),
@@ -297,7 +314,7 @@ impl AppTask for ReturnsTask {
         }
         match end.poll_receive(cx) {
             Poll::Ready(Incoming::HttpRequest { body, more_body }) => {
-                self.waiting = Some(Outgoing::ResponseBody { body, more_body });
+                self.keep(Outgoing::ResponseBody { body, more_body });
                 cx.yield_now()
             }
             Poll::Ready(_) => Poll::Ready(Ok(())),

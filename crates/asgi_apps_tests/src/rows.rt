@@ -82,23 +82,19 @@ impl<A: Application + Drop> Future for Served<A> {
 // What a task is given is made, and asked for again if memory was refused.
 
 pub fn chars(alloc: Global, text: &str) -> Chars {
-    if let Ok(made) = String::from_str(alloc, text) {
-        return Chars::new(made);
+    let mut made = String::new(alloc);
+    if made.push_str(text).is_err() {
+        let _again = made.push_str(text);
     }
-    match String::from_str(alloc, text) {
-        Ok(made) => Chars::new(made),
-        Err(_) => Chars::new(String::new(alloc)),
-    }
+    Chars::new(made)
 }
 
 pub fn octets(alloc: Global, text: &str) -> Octets {
-    if let Ok(made) = Vec::from_slice(alloc, text.as_bytes()) {
-        return Octets::new(made);
+    let mut made = Vec::new(alloc);
+    if made.extend_from_slice(text.as_bytes()).is_err() {
+        let _again = made.extend_from_slice(text.as_bytes());
     }
-    match Vec::from_slice(alloc, text.as_bytes()) {
-        Ok(made) => Octets::new(made),
-        Err(_) => Octets::new(Vec::new(alloc)),
-    }
+    Octets::new(made)
 }
 
 /// What `says` makes of a value. The value is of any type, so the proof sees no field of it.
