@@ -62,7 +62,7 @@ const LOST: Outcome = Outcome::WriteFailed(0);
 
 fn is_among(line: &Script, outcome: Outcome, crossed: Crossed) -> bool {
     for (handed, ended) in crossed {
-        if outcome == *ended && is_handed(line, handed) {
+        if (outcome, true) == (*ended, is_handed(line, handed)) {
             return true;
         }
     }

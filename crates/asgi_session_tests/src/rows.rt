@@ -194,9 +194,10 @@ fn is_line_crossing<H: Host>(
     Ok(is_so || ended.1 == 1 && is_among(written, ended.0, crossed))
 }
 
+// The outcomes are compared as parts of pairs: a proof of `==` alone goes through the variants of both.
 fn is_among(bytes: &[u8], outcome: Outcome, crossed: Crossed) -> bool {
     for (written, ended) in crossed {
-        if outcome == *ended && is_written(bytes, *written) {
+        if (outcome, true) == (*ended, is_written(bytes, *written)) {
             return true;
         }
     }
