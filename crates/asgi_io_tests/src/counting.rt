@@ -39,15 +39,19 @@ fn answer(writer: &mut Counted<Always>, bytes: &[u8]) -> Answer {
     answer_of(&writer.write_some(bytes), bytes.len())
 }
 
+/// Whether two writes are answered so, and this many failures are counted.
+fn holds((bytes, kind, most, wanted, failures): &Row) -> bool {
+    let mut writer = Counted::new(Always {
+        kind: *kind,
+        most: *most,
+    });
+    let answers = [answer(&mut writer, bytes), answer(&mut writer, bytes)];
+    (answers, writer.failures()) == ([*wanted, *wanted], *failures)
+}
+
 #[test]
 fn each_failure_is_counted(rt: HostRuntime) {
-    for (row, (bytes, kind, most, wanted, failures)) in ROWS.iter().enumerate() {
-        let mut writer = Counted::new(Always {
-            kind: *kind,
-            most: *most,
-        });
-        let answers = [answer(&mut writer, bytes), answer(&mut writer, bytes)];
-        assert_eq!(rt; answers, [*wanted, *wanted], "row {row}");
-        assert_eq!(rt; writer.failures(), *failures, "row {row}");
+    for (number, row) in ROWS.iter().enumerate() {
+        assert!(rt; holds(row), "row {number}");
     }
 }

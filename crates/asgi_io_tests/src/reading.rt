@@ -49,7 +49,7 @@ const RESET: Step = Step::Fail(ErrorKind::ConnectionReset);
 
 type Row = (&'static str, &'static [Step], &'static [Answer], u64);
 
-const ROWS: [Row; 5] = [
+const ROWS: &[Row] = &[
     ("the end", &[], &[Answer::Nothing], 0),
     (
         "two pieces",
@@ -77,19 +77,27 @@ const ROWS: [Row; 5] = [
     ),
 ];
 
-#[test]
-fn each_call_is_handed_on_and_counted(rt: HostRuntime) -> Result<(), Fail> {
-    for (name, steps, answers, faults) in ROWS {
-        let mut reader = CountedReader::new(Script {
-            bytes: b"abcdefg",
-            steps,
-        });
-        let mut buf = [0; 4];
-        for answer in answers {
-            let read = reader.read_some(&mut buf);
-            assert_eq!(rt; answer_of(&read, 4), *answer, "{name}");
+/// Whether each read is answered so, and this many faults are counted.
+fn holds((_, steps, answers, faults): &Row) -> bool {
+    let mut reader = CountedReader::new(Script {
+        bytes: b"abcdefg",
+        steps,
+    });
+    let mut buf = [0; 4];
+    for answer in *answers {
+        if (answer_of(&reader.read_some(&mut buf), 4), 4) != (*answer, 4) {
+            return false;
         }
-        assert_eq!(rt; reader.faults(), faults, "{name}");
+    }
+    reader.faults() == *faults
+}
+
+#[test]
+fn each_call_is_handed_on_and_counted(_rt: HostRuntime) -> Result<(), Fail> {
+    for row in ROWS {
+        if !holds(row) {
+            return Err(Fail::from(row.0));
+        }
     }
     Ok(())
 }
@@ -98,10 +106,9 @@ fn each_call_is_handed_on_and_counted(rt: HostRuntime) -> Result<(), Fail> {
 fn bytes_come_as_they_are(rt: HostRuntime) {
     let mut reader = CountedReader::new(b"abc".as_slice());
     let mut buf = [0; 4];
-    let read = reader.read_some(&mut buf);
-    assert_eq!(rt; answer_of(&read, 4), Answer::Moved(3));
-    assert_eq!(rt; buf, [b'a', b'b', b'c', 0]);
-    assert_eq!(rt; reader.reader.len(), 0);
+    let answer = answer_of(&reader.read_some(&mut buf), 4);
+    let left = reader.reader.len();
+    assert!(rt; (answer, buf, left) == (Answer::Moved(3), [b'a', b'b', b'c', 0], 0));
 }
 
 /// A fault, and whether it passes.
@@ -137,7 +144,7 @@ const TURNS: &[(Answer, Turn)] = &[
 #[test]
 fn a_turn_is_that_of_its_call(rt: HostRuntime) {
     for (row, (answer, turn)) in TURNS.iter().enumerate() {
-        assert_eq!(rt; answer.turn(), *turn, "row {row}");
+        assert!(rt; (answer.turn(), row) == (*turn, row), "row {row}");
     }
-    assert_eq!(rt; answer_of(&Ok(0), 0), Answer::Moved(0));
+    assert!(rt; answer_of(&Ok(0), 0) == Answer::Moved(0));
 }

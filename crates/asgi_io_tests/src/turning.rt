@@ -6,7 +6,7 @@ use std::test::Fail;
 type Row = (&'static str, &'static [Turn], u64, u32, u64, bool);
 
 /// The limits are 6 turns, and 3 idle ones in a row.
-const ROWS: [Row; 7] = [
+const ROWS: &[Row] = &[
     ("none", &[], 0, 0, 0, false),
     (
         "two that moved",
@@ -65,20 +65,29 @@ const ROWS: [Row; 7] = [
     ),
 ];
 
-#[test]
-fn turns_are_counted(rt: HostRuntime) -> Result<(), Fail> {
-    for (name, taken, count, idle, paused, over) in ROWS {
-        let mut pause = CountingPause::new();
-        let mut turns = Turns::new(6, 3);
-        for turn in taken {
-            if turns.is_over() {
-                return Err(Fail::from(name));
-            }
-            turns.take(*turn, &mut pause);
+/// The turns, those in a row that were idle, the pauses, and whether a limit was reached, if none was before the last.
+fn counted(taken: &[Turn]) -> Option<(u64, u32, u64, bool)> {
+    let mut pause = CountingPause::new();
+    let mut turns = Turns::new(6, 3);
+    for turn in taken {
+        if turns.is_over() {
+            return None;
         }
-        assert_eq!(rt; (turns.turns, turns.idle), (count, idle), "{name}");
-        assert_eq!(rt; pause.paused(), paused, "{name}");
-        assert_eq!(rt; turns.is_over(), over, "{name}");
+        turns.take(*turn, &mut pause);
+    }
+    Some((turns.turns, turns.idle, pause.paused(), turns.is_over()))
+}
+
+fn holds((_, taken, count, idle, paused, over): &Row) -> bool {
+    counted(taken) == Some((*count, *idle, *paused, *over))
+}
+
+#[test]
+fn turns_are_counted(_rt: HostRuntime) -> Result<(), Fail> {
+    for row in ROWS {
+        if !holds(row) {
+            return Err(Fail::from(row.0));
+        }
     }
     Ok(())
 }

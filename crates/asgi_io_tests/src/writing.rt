@@ -68,7 +68,7 @@ type Row = (
     u64,
 );
 
-const ROWS: [Row; 9] = [
+const ROWS: &[Row] = &[
     (
         "at once",
         0,
@@ -173,12 +173,12 @@ fn writes_are_tried_again(rt: HostRuntime) {
     for (name, blocks, kind, most, room, wrote, held, failures) in ROWS {
         let writer = Counted::new(Choppy {
             held: Vec::new(rt.alloc()),
-            blocks,
-            kind,
-            most,
-            room,
+            blocks: *blocks,
+            kind: *kind,
+            most: *most,
+            room: *room,
         });
-        assert!(rt; is_tried(writer, wrote, held, failures), "{name}");
+        assert!(rt; is_tried(writer, *wrote, held, *failures), "{name}");
     }
 }
 
@@ -189,31 +189,40 @@ fn is_tried_at_each(mut writer: Counted<Slow>, wrote: Wrote, held: &str, failure
         && writer.failures() == failures
 }
 
+/// How often each byte would block, the outcome, what is held then, and the failures counted.
+const CASES: &[(u32, Wrote, &str, u64)] = &[
+    (1_000, Wrote::Done, "abc", 3_000),
+    (1_001, Wrote::Failed(0), "", 1_001),
+];
+
 #[test]
 fn each_write_is_tried_1000_times_again(rt: HostRuntime) {
-    let cases: [(u32, Wrote, &str, u64); 2] = [
-        (1_000, Wrote::Done, "abc", 3_000),
-        (1_001, Wrote::Failed(0), "", 1_001),
-    ];
-    for (blocks, wrote, held, failures) in cases {
+    for (blocks, wrote, held, failures) in CASES {
         let writer = Counted::new(Slow {
             held: Vec::new(rt.alloc()),
-            blocks,
+            blocks: *blocks,
             waited: 0,
         });
-        assert!(rt; is_tried_at_each(writer, wrote, held, failures), "{blocks}");
+        assert!(rt;
+            is_tried_at_each(writer, *wrote, held, *failures),
+            "{blocks}"
+        );
     }
+}
+
+/// What comes of an empty text, and how many failures are counted.
+fn of_nothing(mut writer: Counted<Choppy>) -> (Wrote, u64) {
+    (write_out(&mut writer, b""), writer.failures())
 }
 
 #[test]
 fn an_empty_text_is_written_without_a_call(rt: HostRuntime) {
-    let mut writer = Counted::new(Choppy {
+    let writer = Counted::new(Choppy {
         held: Vec::new(rt.alloc()),
         blocks: 1,
         kind: ErrorKind::BrokenPipe,
         most: 1,
         room: 1,
     });
-    assert_eq!(rt; write_out(&mut writer, b""), Wrote::Done);
-    assert_eq!(rt; writer.failures(), 0);
+    assert!(rt; of_nothing(writer) == (Wrote::Done, 0));
 }
