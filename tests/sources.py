@@ -25,7 +25,7 @@ TOP = os.path.dirname(os.path.dirname(os.path.realpath(__file__)))
 # refused, whose error is the element; and where a library says so by a variant of its own, which has no value.
 BUILDS = {"crates/asgi_apps/src/mounts.rt": 1, "crates/asgi_pipes/src/plain.rt": 1, "crates/asgi_pipes/src/rings.rt": 1, "crates/asgi_response/src/append.rt": 1, "crates/asgi_routes/src/error.rt": 1}
 # Where an answer is thrown away: what can't be written on standard error can be told nowhere.
-THROWS = {"crates/asgi_demo/src/telling.rt": 1}
+THROWS = {"crates/asgi_command/src/telling.rt": 1}
 # Where want of memory is said and no refusal stands right before it: in a function that is called where one was, and in the
 # record of a call that is made before its result is known.
 SAYS = {"crates/asgi_crew/src/sharing.rt": 1, "crates/asgi_ws/src/calls.rt": 1}

@@ -1,0 +1,17 @@
+//! What the program does on its words: serves one connection over a line, or the connections of a listener, and tells how that
+//! ended. The program itself, `asgi_demo`, hands its words and its streams over.
+#![tactic(auto)]
+
+mod apps;
+mod command;
+mod ending;
+mod listens;
+mod reports;
+mod serve;
+mod telling;
+mod words;
+
+pub use command::{command, without_words};
+pub use listens::Listens;
+pub use serve::serve_on;
+pub use words::{App, Command};

@@ -1,6 +1,0 @@
-use Rattle.std.proofs.Common.{map, string_bytes}
-use Rattle.asgi_demo.proofs.WordLemmas.{no_command}
-use Rattle.asgi_demo.proofs.words.command_of.Goals as goal
-
-pub returns-clause-none : goal.returns-clause-none
-returns-clause-none c = no_command (map string_bytes c.args.words.now) c.serve_of.result c.in_default.ensures.none c.serve_of.ensures.none
