@@ -1,15 +1,22 @@
 //! What a stream has not taken yet.
-ghost use Rattle.std.specs.Prelude.{◌≡◌, ◌↔◌, ◌≤◌, ◌++◌, [], ℕ, List, IsTrue, IfOk, OnOk, OnErr, MatchResult, length, take, vec_len, drop, ◌+◌};
-ghost use Rattle.std.specs.Io.{WritesAtMost};
-ghost use Rattle.std.specs.Io.KnownBytes.{WriteAppends};
-ghost use Rattle.asgi_reactor.specs.Holding.{GoesOut, taken, waiting};
+ghost use Rattle.std.specs.Prelude.{◌≡◌, ◌↔◌, ◌≤◌, ◌++◌, [], ℕ, List, IsTrue, IfOk, OnOk, OnErr, length, take, vec_len, drop, ◌+◌};
+ghost use Rattle.asgi_reactor.specs.Holding.{GoesOut, TakesOn, many, taken, waiting};
 
 use asgi_io::is_passing;
 use std::alloc::{AllocError, Global};
-use std::io::{self, ErrorKind, Write};
+use std::io::{self, Write};
 
 /// How many bytes wait at the most before they are pushed, unless the stream has no room.
 pub(crate) const JOINED: usize = 16_384;
+
+/// How much of a write was taken.
+#[derive(Debug)]
+pub enum Took {
+    /// All of it: what the stream does not take waits.
+    All,
+    /// So many bytes of its front: memory for the others was refused.
+    Part(usize, AllocError),
+}
 
 /// Bytes that wait to be written, in order.
 #[derive(Drop)]
@@ -77,61 +84,60 @@ impl Held {
         self.buf = Vec::new(self.alloc);
     }
 
-    /// Writes the bytes behind those that wait, and returns how many were taken: what the stream does not take waits too. So all
-    /// are taken, unless the stream fails, or memory is refused.
-    pub fn write<W: Write>(&mut self, stream: &mut W, buf: &[u8]) -> io::Result<usize>
-        ensures bound { WritesAtMost result buf.now }
-        ensures bytes { WriteAppends (taken (W.contents stream.old) self.old.buf.items self.old.start) (taken (W.contents stream.new) self.new.buf.items self.new.start) result buf.now }
+    /// Writes the bytes behind those that wait. What the stream does not take waits too, so all are taken, unless the stream
+    /// fails, or memory is refused.
+    pub fn write<W: Write>(&mut self, stream: &mut W, buf: &[u8]) -> io::Result<Took>
+        ensures bound { IfOk result (λ took. many buf.now took ≤ length buf.now) }
+        ensures bytes { TakesOn (taken (W.contents stream.old) self.old.buf.items self.old.start) (taken (W.contents stream.new) self.new.buf.items self.new.start) result buf.now }
     {
         if !self.is_empty() {
             match self.push(stream) {
                 Ok(true) => {}
-                Ok(false) => return self.hold(buf),
-                Err(e) if is_passing(&e) => return self.hold(buf),
+                Ok(false) => return Ok(self.hold(buf)),
+                Err(e) if is_passing(&e) => return Ok(self.hold(buf)),
                 Err(e) => return Err(e),
             }
         }
         match stream.write(buf) {
             Ok(took) => Ok(self.hold_rest(buf, took)),
-            Err(e) if is_passing(&e) => self.hold(buf),
+            Err(e) if is_passing(&e) => Ok(self.hold(buf)),
             Err(e) => Err(e),
         }
     }
 
     /// The same, but while few bytes wait these wait with them, so that one push writes all.
-    pub fn join<W: Write>(&mut self, stream: &mut W, buf: &[u8]) -> io::Result<usize>
-        ensures bound { WritesAtMost result buf.now }
-        ensures bytes { WriteAppends (taken (W.contents stream.old) self.old.buf.items self.old.start) (taken (W.contents stream.new) self.new.buf.items self.new.start) result buf.now }
+    pub fn join<W: Write>(&mut self, stream: &mut W, buf: &[u8]) -> io::Result<Took>
+        ensures bound { IfOk result (λ took. many buf.now took ≤ length buf.now) }
+        ensures bytes { TakesOn (taken (W.contents stream.old) self.old.buf.items self.old.start) (taken (W.contents stream.new) self.new.buf.items self.new.start) result buf.now }
     {
         if buf.len() <= JOINED.saturating_sub(self.len()) {
             if let Ok(()) = self.put(buf) {
-                return Ok(buf.len());
+                return Ok(Took::All);
             }
         }
         self.write(stream, buf)
     }
 
-    /// All of these bytes wait.
-    fn hold(&mut self, bytes: &[u8]) -> io::Result<usize>
-        ensures bound { WritesAtMost result bytes.now }
-        ensures waits { MatchResult result (λ n. waiting self.new.buf.items self.new.start ≡ waiting self.old.buf.items self.old.start ++ take n bytes.now)
-            (λ _. waiting self.new.buf.items self.new.start ≡ waiting self.old.buf.items self.old.start) }
+    /// All of these bytes wait, or none of them.
+    fn hold(&mut self, bytes: &[u8]) -> Took
+        ensures bound { many bytes.now result ≤ length bytes.now }
+        ensures waits { waiting self.new.buf.items self.new.start ≡ waiting self.old.buf.items self.old.start ++ take (many bytes.now result) bytes.now }
     {
         match self.put(bytes) {
-            Ok(()) => Ok(bytes.len()),
-            Err(_) => Err(io::Error::from(ErrorKind::WouldBlock)),
+            Ok(()) => Took::All,
+            Err(e) => Took::Part(0, e),
         }
     }
 
     /// The bytes behind the first few wait, and are taken too, unless memory is refused.
-    fn hold_rest(&mut self, bytes: &[u8], took: usize) -> usize
+    fn hold_rest(&mut self, bytes: &[u8], took: usize) -> Took
         requires { took ≤ length bytes.now }
-        ensures bound { result ≤ length bytes.now }
-        ensures waits { (n : ℕ) × (waiting self.new.buf.items self.new.start ≡ waiting self.old.buf.items self.old.start ++ take n (drop took bytes.now)) × (result ≡ took + n) }
+        ensures bound { many bytes.now result ≤ length bytes.now }
+        ensures waits { (n : ℕ) × (waiting self.new.buf.items self.new.start ≡ waiting self.old.buf.items self.old.start ++ take n (drop took bytes.now)) × (many bytes.now result ≡ took + n) }
     {
         match self.put(&bytes[took..]) {
-            Ok(()) => bytes.len(),
-            Err(_) => took,
+            Ok(()) => Took::All,
+            Err(e) => Took::Part(took, e),
         }
     }
 }

@@ -12,7 +12,7 @@ mod reactor;
 mod thread;
 
 pub use asgi_many::{Departure, Next, Reactor, Ready, Served, Teller, serve_many};
-pub use held::Held;
+pub use held::{Held, Took};
 pub use polled::Polled;
 pub use reactor::{Numbers, PolledLine, SocketReactor};
 pub use thread::serve_in_thread;

@@ -1,5 +1,5 @@
 //! A socket that never waits.
-use crate::held::{Held, JOINED};
+use crate::held::{Held, JOINED, Took};
 use asgi_io::is_passing;
 use mio::net::TcpStream;
 use std::alloc::Global;
@@ -175,7 +175,11 @@ impl Write for Polled {
         let held = self.held.get_mut();
         let wrote = held.join(&mut self.stream, buf);
         self.waits.set(held.len() > JOINED);
-        wrote
+        match wrote? {
+            Took::All => Ok(buf.len()),
+            Took::Part(0, _) => Err(would_block()),
+            Took::Part(many, _) => Ok(many),
+        }
     }
 
     fn flush(&mut self) -> io::Result<()> {
