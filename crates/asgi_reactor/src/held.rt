@@ -10,7 +10,7 @@ use std::io::{self, Write};
 pub(crate) const JOINED: usize = 16_384;
 
 /// How much of a write was taken.
-#[derive(Debug)]
+#[derive(Clone, Copy, Debug)]
 pub enum Took {
     /// All of it: what the stream does not take waits.
     All,
