@@ -1,7 +1,7 @@
 //! `make`, when one allocation is refused: it returns that error, and can be called again. No call of an end allocates,
 //! and `renew` allocates nothing if the places are as many.
 //! `tests/memory.py` runs these with each allocation refused in turn; with ample memory none is refused.
-use crate::pairs::{Answer, Pair, PlainPair, Ran, RingPair, Row, Step, facts, run_table};
+use crate::pairs::{Answer, Pair, PlainPair, Ran, RingPair, Row, Step, facts, is_left, run_table};
 use asgi_pipes::{AppEnd, ConnEnd, EndKind, Pipes, Plain, PlainApp, PlainConn};
 use asgi_types::{Incoming, Kind};
 use std::alloc::{AllocError, AllocGlobal, Global};
@@ -45,7 +45,7 @@ fn fill_made(alloc: Global) -> Result<[bool; 7], AllocError> {
 #[test]
 fn memory_for_a_pair(rt: HostRuntime) -> Result<(), Fail> {
     let filled = fill_made(rt.alloc())?;
-    assert_eq!(rt; filled, [true; 7]);
+    assert!(rt; filled == [true; 7]);
     Ok(())
 }
 
@@ -90,7 +90,7 @@ fn used(conn: PlainConn, app: PlainApp) -> [bool; 2] {
 #[test]
 fn no_memory_for_a_renewed_pair(rt: HostRuntime) -> Result<(), Fail> {
     let renewed = fill_and_renew(rt.alloc())?;
-    assert_eq!(rt; renewed, ([true; 7], Some(([true; 7], [true; 2]))));
+    assert!(rt; renewed == ([true; 7], Some(([true; 7], [true; 2]))));
     Ok(())
 }
 
@@ -116,6 +116,6 @@ fn table_of<P: Pair, R: RandomSource + AllocGlobal>(rt: &R) -> Result<Ran, Alloc
 fn memory_for_a_table(rt: HostRuntime) -> Result<(), Fail> {
     let plain = table_of::<PlainPair, HostRuntime>(&rt)?;
     let rings = table_of::<RingPair, HostRuntime>(&rt)?;
-    assert_eq!(rt; (plain, rings), ((None, (0, 1)), (None, (0, 1))));
+    assert!(rt; is_left(&plain, (0, 1)) && is_left(&rings, (0, 1)));
     Ok(())
 }

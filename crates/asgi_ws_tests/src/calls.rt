@@ -5,7 +5,7 @@ use std::alloc::{AllocError, Global};
 use std::test::Fail;
 
 /// What a read returned, without its data.
-#[derive(Clone, Copy, Debug, PartialEq, Eq)]
+#[derive(Clone, Copy, PartialEq, Eq)]
 pub enum Kind {
     Text,
     Bytes,
@@ -77,9 +77,9 @@ pub fn close<L: Line>(line: &mut L, code: u16, reason: Reason) -> Put {
 
 /// How many reads, from the first on, return these kinds.
 pub fn reads_held<L: Line>(line: &mut L, kinds: &[Kind]) -> usize {
-    for i in 0..kinds.len() {
-        if next(line) != kinds[i] {
-            return i;
+    for (index, kind) in kinds.iter().enumerate() {
+        if (next(line), index) != (*kind, index) {
+            return index;
         }
     }
     kinds.len()

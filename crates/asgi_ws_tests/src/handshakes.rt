@@ -28,15 +28,29 @@ fn facts(alloc: Global) -> Facts {
     }
 }
 
-fn accept(
-    alloc: Global,
-    subprotocol: Option<Chars>,
-    fields: &[(&str, &str)],
-) -> Result<Outgoing, HeaderError> {
+fn headers_of(alloc: Global, fields: &[(&str, &str)]) -> Result<Headers, HeaderError> {
     let mut headers = Headers::new(alloc);
-    for (name, value) in fields {
-        headers.push(name.as_bytes(), value.as_bytes())?;
+    match push_all(&mut headers, fields) {
+        Ok(()) => Ok(headers),
+        Err(e) => Err(e),
     }
+}
+
+fn push_all(headers: &mut Headers, fields: &[(&str, &str)]) -> Result<(), HeaderError> {
+    for (name, value) in fields {
+        push(headers, name.as_bytes(), value.as_bytes())?;
+    }
+    Ok(())
+}
+
+// What a test proves needs none of the clauses of this call.
+fn push(headers: &mut Headers, name: &[u8], value: &[u8]) -> Result<(), HeaderError> {
+    headers.push(name, value)
+}
+
+fn accept(alloc: Global, name: &str, fields: &[(&str, &str)]) -> Result<Outgoing, HeaderError> {
+    let headers = headers_of(alloc, fields)?;
+    let subprotocol = named(alloc, name)?;
     Ok(Outgoing::WsAccept {
         subprotocol,
         headers,
@@ -89,7 +103,7 @@ fn is_accepted(
     fields: &[(&str, &str)],
     lines: &str,
 ) -> Result<bool, HeaderError> {
-    let event = accept(alloc, named(alloc, name)?, fields)?;
+    let event = accept(alloc, name, fields)?;
     let found = of(event, |event| ends_with(alloc, event, lines));
     Ok(found?)
 }
@@ -115,7 +129,7 @@ fn another_event_has_no_text(rt: HostRuntime) -> Result<(), Fail> {
         more_body: false,
     };
     let len = of(event, |event| text_len(rt.alloc(), event))?;
-    assert_eq!(rt; len, 0);
+    assert!(rt; len == 0);
     Ok(())
 }
 
@@ -123,20 +137,20 @@ const REFUSAL: &[u8] = b"HTTP/1.1 403 Forbidden\r\ncontent-length: 0\r\nconnecti
 
 #[test]
 fn a_handshake_is_refused(rt: HostRuntime) -> Result<(), Fail> {
-    assert_eq!(rt; denied_text(), REFUSAL);
+    assert!(rt; denied_text() == REFUSAL);
     Ok(())
 }
 
 #[test]
 fn a_key_is_answered(rt: HostRuntime) -> Result<(), Fail> {
     let value = accept_value(KEY);
-    assert_eq!(rt; value.as_slice(), ANSWER);
+    assert!(rt; value.as_slice() == ANSWER);
     Ok(())
 }
 
 /// An "Accept" with a subprotocol and a field.
 fn chosen(alloc: Global) -> Result<Outgoing, HeaderError> {
-    accept(alloc, named(alloc, "chat")?, &[("x-a", "q")])
+    accept(alloc, "chat", &[("x-a", "q")])
 }
 
 const CHOSEN: &str = "sec-websocket-protocol: chat\r\nx-a: q\r\n\r\n";

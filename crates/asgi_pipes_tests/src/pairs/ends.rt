@@ -3,7 +3,7 @@ ghost use Rattle.std.specs.Prelude.{◌≡◌, false, None, Some};
 ghost use Rattle.asgi_pipes.specs.PlainPairs.{IsPlainPair};
 ghost use Rattle.asgi_pipes.specs.RingEnds.{IsRingPair};
 
-use super::{Answer, Left};
+use super::{Answer, Left, code_of};
 use asgi_pipes::{
     AppEnd, ConnEnd, EndKind, Met, OutItem, Pipes, Plain, PlainApp, PlainConn, RingApp, RingConn,
     Rings, Sent,
@@ -283,7 +283,7 @@ fn shown_sent(sent: &Sent) -> Answer {
 
 fn first(bytes: &[u8]) -> u16 {
     match bytes.first() {
-        Some(byte) => *byte as u16,
+        Some(byte) => code_of(*byte),
         None => 0,
     }
 }

@@ -1,6 +1,6 @@
 //! Pairs made out of the ends of another one behave as fresh ones.
 use super::http::{EVERY_ANSWER, PAIR_OF_TWO_PLACES};
-use super::{Answer, Pair, PlainPair, Ran, RingPair, Row, Step, facts, run_on, solo_of};
+use super::{Answer, Pair, PlainPair, Ran, RingPair, Row, Step, facts, is_left, run_on, solo_of};
 use asgi_pipes::EndKind;
 use asgi_types::Kind;
 use futures::task::Solo;
@@ -71,10 +71,9 @@ fn check_renewed<P: Pair, R: Abort + AllocGlobal>(
     ring: usize,
 ) -> Result<(), Fail> {
     for (place, rows) in TABLES.iter().enumerate() {
-        let ran = run_twice::<P>(rt.alloc(), solo, ring, rows)?;
-        assert_eq!(rt;
-            ran,
-            ((None, (2, 2)), (None, (0, 0))),
+        let (before, after) = run_twice::<P>(rt.alloc(), solo, ring, rows)?;
+        assert!(rt;
+            is_left(&before, (2, 2)) && is_left(&after, (0, 0)),
             "{ring}, table {place}"
         );
     }

@@ -1,8 +1,9 @@
 //! HTTP: responses.
 
-use super::{Heard, IGNORED, PASS, Part, Step, facts, judges, judges_hearing, says};
+use super::{Heard, IGNORED, PASS, Part, Step, facts, judges, judges_hearing, judges_one, says};
 use asgi_protocol::{Judge, Verdict};
 use asgi_types::Kind;
+use std::process::Abort;
 use std::test::Fail;
 
 const IN_ORDER: &[(Step, Verdict)] = &[
@@ -75,7 +76,7 @@ fn trailers_follow_the_content_that_announced_them(rt: HostRuntime) -> Result<()
     judges(&rt, Kind::Http, "a length", TRAILERS_AFTER_A_LENGTH)
 }
 
-const TRAILERS_LEFT: [Part; 2] = [
+const TRAILERS_LEFT: &[Part] = &[
     (
         "before",
         &[],
@@ -90,7 +91,7 @@ const TRAILERS_LEFT: [Part; 2] = [
 
 #[test]
 fn trailers_are_refused_after_a_disconnect(rt: HostRuntime) -> Result<(), Fail> {
-    judges_hearing(&rt, Kind::Http, &TRAILERS_LEFT)
+    judges_hearing(&rt, Kind::Http, TRAILERS_LEFT)
 }
 
 const LENGTH_5: &[(Step, Verdict)] = &[
@@ -149,19 +150,26 @@ const HEAD: &[(Step, Verdict)] = &[
     (Step::LastBody(0), IGNORED),
 ];
 
+/// Statuses of responses without content.
+const NO_CONTENT: &[u16] = &[204, 304];
+
+fn has_any_bodies(rt: &(impl Abort + AllocGlobal), status: u16) -> Result<(), Fail> {
+    judges(
+        rt,
+        Kind::Http,
+        "no content",
+        &[
+            (Step::Start(status, "content-length: 3"), PASS),
+            (Step::Body(4), PASS),
+            (Step::LastBody(0), PASS),
+        ],
+    )
+}
+
 #[test]
 fn a_response_without_content_has_any_bodies(rt: HostRuntime) -> Result<(), Fail> {
-    for status in [204, 304] {
-        judges(
-            &rt,
-            Kind::Http,
-            "no content",
-            &[
-                (Step::Start(status, "content-length: 3"), PASS),
-                (Step::Body(4), PASS),
-                (Step::LastBody(0), PASS),
-            ],
-        )?;
+    for status in NO_CONTENT {
+        has_any_bodies(&rt, *status)?;
     }
     let head = facts(rt.alloc(), true)?;
     says(&rt, &mut Judge::new(Kind::Http), &head, "HEAD", HEAD)
@@ -178,17 +186,21 @@ const STATUSES: &[(u16, Verdict)] = &[
     (65_535, Verdict::Refused(5)),
 ];
 
+/// The status of a response, and that of a denial.
+fn status_gives(
+    rt: &(impl Abort + AllocGlobal),
+    status: u16,
+    verdict: Verdict,
+) -> Result<(), Fail> {
+    judges_one(rt, Kind::Http, "status", Step::Start(status, ""), verdict)?;
+    let denial = Step::DenialStart(status, "");
+    judges_one(rt, Kind::WebSocket, "status of a denial", denial, verdict)
+}
+
 #[test]
 fn a_status_is_200_to_599(rt: HostRuntime) -> Result<(), Fail> {
     for (status, verdict) in STATUSES {
-        judges(
-            &rt,
-            Kind::Http,
-            "status",
-            &[(Step::Start(*status, ""), *verdict)],
-        )?;
-        let denial = [(Step::DenialStart(*status, ""), *verdict)];
-        judges(&rt, Kind::WebSocket, "status of a denial", &denial)?;
+        status_gives(&rt, *status, *verdict)?;
     }
     Ok(())
 }
@@ -212,17 +224,21 @@ const CONTENT_LENGTHS: &[(&'static str, Verdict)] = &[
     ("content-lengths: a, upgrade: b", PASS),
 ];
 
+/// The fields of a response, and those of a denial.
+fn fields_give(
+    rt: &(impl Abort + AllocGlobal),
+    fields: &'static str,
+    verdict: Verdict,
+) -> Result<(), Fail> {
+    judges_one(rt, Kind::Http, fields, Step::Start(200, fields), verdict)?;
+    let denial = Step::DenialStart(401, fields);
+    judges_one(rt, Kind::WebSocket, fields, denial, verdict)
+}
+
 #[test]
 fn content_length_is_one_field_of_1_to_19_digits(rt: HostRuntime) -> Result<(), Fail> {
     for (fields, verdict) in CONTENT_LENGTHS {
-        judges(
-            &rt,
-            Kind::Http,
-            fields,
-            &[(Step::Start(200, fields), *verdict)],
-        )?;
-        let denial = [(Step::DenialStart(401, fields), *verdict)];
-        judges(&rt, Kind::WebSocket, fields, &denial)?;
+        fields_give(&rt, fields, *verdict)?;
     }
     Ok(())
 }
@@ -246,7 +262,7 @@ fn the_first_reason_counts(rt: HostRuntime) -> Result<(), Fail> {
     judges(&rt, Kind::Http, "two reasons", TWO_REASONS)
 }
 
-const BEGUN: [Part; 2] = [
+const BEGUN: &[Part] = &[
     ("before", &[Heard::Request], &[(Step::Start(200, ""), PASS)]),
     (
         "after",
@@ -259,7 +275,7 @@ const BEGUN: [Part; 2] = [
     ),
 ];
 
-const WHOLE: [Part; 2] = [
+const WHOLE: &[Part] = &[
     (
         "whole",
         &[],
@@ -274,6 +290,6 @@ const WHOLE: [Part; 2] = [
 
 #[test]
 fn after_a_disconnect_nothing_passes(rt: HostRuntime) -> Result<(), Fail> {
-    judges_hearing(&rt, Kind::Http, &BEGUN)?;
-    judges_hearing(&rt, Kind::Http, &WHOLE)
+    judges_hearing(&rt, Kind::Http, BEGUN)?;
+    judges_hearing(&rt, Kind::Http, WHOLE)
 }

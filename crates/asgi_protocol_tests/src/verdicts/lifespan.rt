@@ -36,7 +36,7 @@ fn a_start_is_answered_and_then_a_stop(rt: HostRuntime) -> Result<(), Fail> {
     judges(&rt, Kind::Lifespan, "not stopped", NOT_STOPPED)
 }
 
-const STARTED: [Part; 2] = [
+const STARTED: &[Part] = &[
     ("started", &[Heard::Startup], &[(Step::Started, PASS)]),
     (
         "disconnected",
@@ -49,7 +49,7 @@ const STARTED: [Part; 2] = [
     ),
 ];
 
-const FAILED: [Part; 2] = [
+const FAILED: &[Part] = &[
     ("failed", &[], &[(Step::NotStarted, PASS)]),
     (
         "failed and disconnected",
@@ -61,8 +61,8 @@ const FAILED: [Part; 2] = [
 #[test]
 fn what_is_heard_is_no_disconnect(rt: HostRuntime) -> Result<(), Fail> {
     // No server sends a disconnect to a lifespan scope, but a judge takes any event.
-    judges_hearing(&rt, Kind::Lifespan, &STARTED)?;
-    judges_hearing(&rt, Kind::Lifespan, &FAILED)
+    judges_hearing(&rt, Kind::Lifespan, STARTED)?;
+    judges_hearing(&rt, Kind::Lifespan, FAILED)
 }
 
 const NUMBERS: &[(Violation, u8)] = &[
@@ -79,14 +79,13 @@ const NUMBERS: &[(Violation, u8)] = &[
     (Violation::TooLittleBody, 11),
 ];
 
+fn is_numbered((refusal, number): &(Violation, u8)) -> bool {
+    (refusal.number(), Verdict::from(*refusal)) == (*number, Verdict::Refused(*number))
+}
+
 #[test]
 fn refusals_are_numbered_from_1_to_11(rt: HostRuntime) {
-    for (refusal, number) in NUMBERS {
-        assert_eq!(rt; refusal.number(), *number, "{refusal:?}");
-        assert_eq!(rt;
-            Verdict::from(*refusal),
-            Verdict::Refused(*number),
-            "{refusal:?}"
-        );
+    for row in NUMBERS {
+        assert!(rt; is_numbered(row), "{}", row.1);
     }
 }

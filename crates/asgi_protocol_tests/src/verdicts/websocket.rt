@@ -1,8 +1,9 @@
 //! WebSocket: sessions, rejections and denials.
 
-use super::{Heard, PASS, Part, Step, judges, judges_hearing};
+use super::{Heard, PASS, Part, Step, judges, judges_hearing, judges_one};
 use asgi_protocol::Verdict;
 use asgi_types::Kind;
+use std::process::Abort;
 use std::test::Fail;
 
 const A_SESSION: &[(Step, Verdict)] = &[
@@ -44,11 +45,12 @@ const ACCEPTED_FIELDS: &[(&'static str, Verdict)] = &[
 #[test]
 fn an_accept_has_no_field_of_the_handshake(rt: HostRuntime) -> Result<(), Fail> {
     for (fields, verdict) in ACCEPTED_FIELDS {
-        judges(
+        judges_one(
             &rt,
             Kind::WebSocket,
             fields,
-            &[(Step::Accept("", fields), *verdict)],
+            Step::Accept("", fields),
+            *verdict,
         )?;
     }
     Ok(())
@@ -72,38 +74,35 @@ const CODES: &[(u16, Verdict)] = &[
     (65_535, Verdict::Refused(7)),
 ];
 
+/// The code of a rejection, and that of the close of a session.
+fn code_gives(rt: &(impl Abort + AllocGlobal), code: u16, verdict: Verdict) -> Result<(), Fail> {
+    let close = Step::Close(code, 0);
+    judges_one(rt, Kind::WebSocket, "rejected", close, verdict)?;
+    let session = &[(Step::Accept("", ""), PASS), (close, verdict)];
+    judges(rt, Kind::WebSocket, "closed", session)
+}
+
 #[test]
 fn close_codes_are_those_that_an_application_may_send(rt: HostRuntime) -> Result<(), Fail> {
     for (code, verdict) in CODES {
-        judges(
-            &rt,
-            Kind::WebSocket,
-            "rejected",
-            &[(Step::Close(*code, 0), *verdict)],
-        )?;
-        let session = [
-            (Step::Accept("", ""), PASS),
-            (Step::Close(*code, 0), *verdict),
-        ];
-        judges(&rt, Kind::WebSocket, "closed", &session)?;
+        code_gives(&rt, *code, *verdict)?;
     }
     Ok(())
 }
 
+/// How many bytes a reason has.
+const REASONS: &[(usize, Verdict)] = &[
+    (0, PASS),
+    (122, PASS),
+    (123, PASS),
+    (124, Verdict::Refused(8)),
+];
+
 #[test]
 fn a_close_reason_has_at_most_123_bytes(rt: HostRuntime) -> Result<(), Fail> {
-    for (size, verdict) in [
-        (0, PASS),
-        (122, PASS),
-        (123, PASS),
-        (124, Verdict::Refused(8)),
-    ] {
-        judges(
-            &rt,
-            Kind::WebSocket,
-            "reason",
-            &[(Step::Close(1_000, size), verdict)],
-        )?;
+    for (size, verdict) in REASONS {
+        let close = Step::Close(1_000, *size);
+        judges_one(&rt, Kind::WebSocket, "reason", close, *verdict)?;
     }
     Ok(())
 }
@@ -163,7 +162,7 @@ fn the_first_reason_counts(rt: HostRuntime) -> Result<(), Fail> {
     judges(&rt, Kind::WebSocket, "two reasons", TWO_REASONS)
 }
 
-const DISCONNECTED: [Part; 3] = [
+const DISCONNECTED: &[Part] = &[
     (
         "before",
         &[Heard::Connect],
@@ -185,10 +184,10 @@ const DISCONNECTED: [Part; 3] = [
 
 #[test]
 fn after_a_disconnect_nothing_passes(rt: HostRuntime) -> Result<(), Fail> {
-    judges_hearing(&rt, Kind::WebSocket, &DISCONNECTED)
+    judges_hearing(&rt, Kind::WebSocket, DISCONNECTED)
 }
 
-const REJECTED: [Part; 2] = [
+const REJECTED: &[Part] = &[
     ("rejected", &[], &[(Step::Close(1_000, 0), PASS)]),
     (
         "after",
@@ -199,5 +198,5 @@ const REJECTED: [Part; 2] = [
 
 #[test]
 fn a_closed_session_stays_closed_where_a_disconnect_is_heard(rt: HostRuntime) -> Result<(), Fail> {
-    judges_hearing(&rt, Kind::WebSocket, &REJECTED)
+    judges_hearing(&rt, Kind::WebSocket, REJECTED)
 }

@@ -69,7 +69,7 @@ fn is_taken(text: &mut ResponseText, event: &Outgoing, out: &mut Vec<u8>) -> boo
     if text.take(event, out).is_ok() {
         return true;
     }
-    out.len() == len && text.progress() == progress && text.take(event, out).is_ok()
+    (out.len(), text.progress()) == (len, progress) && text.take(event, out).is_ok()
 }
 
 /// The same, and the event is dropped.

@@ -108,11 +108,22 @@ fn progress_of(alloc: Global, ask: Ask, said: &[Say]) -> Result<Progress, Header
     progress_after(&mut fresh(alloc, ask), alloc, said)
 }
 
+/// Whether the response is so far once the events were taken.
+pub fn is_so_far(
+    alloc: Global,
+    ask: Ask,
+    said: &[Say],
+    progress: Progress,
+) -> Result<bool, HeaderError> {
+    let found = progress_of(alloc, ask, said)?;
+    Ok((found, 0) == (progress, 0))
+}
+
 #[test]
 fn progress_is_that_of_the_events_taken(rt: HostRuntime) -> Result<(), Fail> {
     for (name, ask, said, progress) in ROWS {
-        let found = progress_of(rt.alloc(), *ask, *said)?;
-        assert_eq!(rt; found, *progress, "{name}");
+        let is_so = is_so_far(rt.alloc(), *ask, *said, *progress)?;
+        assert!(rt; is_so, "{name}");
     }
     Ok(())
 }
