@@ -5,7 +5,6 @@ use asgi_apps::{AppFault, Life, MountError, Mounts, RootPath};
 use asgi_types::Kind;
 use std::alloc::{AllocError, AllocGlobal, Global};
 use std::random::RandomSource;
-use std::test::Fail;
 
 /// `RootPath` under each of the prefixes.
 fn mounted(alloc: Global, prefixes: &[&str]) -> Result<Mounts<RootPath>, MountError> {
@@ -103,20 +102,16 @@ fn run_path<R: RandomSource + AllocGlobal>(rt: &R, given: &Path) -> Result<bool,
     mounted_run(rt, prefixes, asked, (Kind::Http, SILENCE, expected))
 }
 
-/// The number of the first path at which something else is sent.
-fn first_unsaid<R: RandomSource + AllocGlobal>(rt: &R) -> Option<usize> {
-    for (place, given) in PATHS.iter().enumerate() {
-        if !run_path(rt, given).unwrap_or(false) {
-            return Some(place);
-        }
-    }
-    None
+/// Whether at this path is sent what the row holds.
+fn is_said<R: RandomSource + AllocGlobal>(rt: &R, given: &Path) -> bool {
+    run_path(rt, given).unwrap_or(false)
 }
 
 #[test]
-fn the_longest_prefix_takes_the_path(rt: HostRuntime) -> Result<(), Fail> {
-    assert_eq!(rt; first_unsaid(&rt), None);
-    Ok(())
+fn the_longest_prefix_takes_the_path(rt: HostRuntime) {
+    for (number, given) in PATHS.iter().enumerate() {
+        assert!(rt; is_said(&rt, given), "path {number}");
+    }
 }
 
 /// The prefixes, a path, `root_path`, and the number that is found.
@@ -142,21 +137,17 @@ fn is_found(alloc: Global, row: &Numbered) -> bool {
     }
 }
 
-/// The first path at which another number is found.
-fn first_unfound(alloc: Global) -> Option<&'static str> {
+#[test]
+fn paths_are_found_by_number(rt: HostRuntime) {
     for row in NUMBERED {
-        if !is_found(alloc, row) {
-            return Some(row.1);
-        }
+        assert!(rt; is_found(rt.alloc(), row), "{}", row.1);
     }
-    None
 }
 
-#[test]
-fn paths_are_found_by_number(rt: HostRuntime) -> Result<(), Fail> {
-    assert_eq!(rt; first_unfound(rt.alloc()), None);
-    Ok(())
-}
+/// Nine prefixes, none under another one.
+const NINE: &[&str] = &[
+    "/00", "/01", "/02", "/03", "/04", "/05", "/06", "/07", "/08",
+];
 
 /// Forty prefixes, none under another one.
 const FORTY: &[&str] = &[
@@ -176,17 +167,17 @@ fn first_elsewhere(mounts: &Mounts<RootPath>, prefixes: &[&str]) -> Option<usize
     None
 }
 
-/// The same if all of these are mounted, in their order.
-fn first_lost(alloc: Global, prefixes: &[&str]) -> Result<Option<usize>, MountError> {
-    let mounts = mounted(alloc, prefixes)?;
-    Ok(first_elsewhere(&mounts, prefixes))
+/// Whether none does if all of these are mounted, in their order.
+fn are_found(alloc: Global, prefixes: &[&str]) -> bool {
+    match mounted(alloc, prefixes) {
+        Ok(mounts) => first_elsewhere(&mounts, prefixes).is_none(),
+        Err(_) => false,
+    }
 }
 
 #[test]
-fn each_of_nine_and_of_forty_mounts_is_found(rt: HostRuntime) -> Result<(), Fail> {
-    assert_eq!(rt; first_lost(rt.alloc(), &FORTY[..9]), Ok(None));
-    assert_eq!(rt; first_lost(rt.alloc(), FORTY), Ok(None));
-    Ok(())
+fn each_of_nine_and_of_forty_mounts_is_found(rt: HostRuntime) {
+    assert!(rt; are_found(rt.alloc(), NINE) && are_found(rt.alloc(), FORTY));
 }
 
 /// A prefix, and what mounting it after those before it returns.
@@ -206,7 +197,8 @@ const PREFIXES: &[(&str, Result<(), MountError>)] = &[
 /// The number of the first prefix for which something else is returned.
 fn first_unlike(alloc: Global, mounts: &mut Mounts<RootPath>) -> Option<usize> {
     for (place, (prefix, expected)) in PREFIXES.iter().enumerate() {
-        if mounts.mount(chars(alloc, prefix), RootPath) != *expected {
+        let mounted = mounts.mount(chars(alloc, prefix), RootPath);
+        if (mounted, place) != (*expected, place) {
             return Some(place);
         }
     }
@@ -221,16 +213,18 @@ fn mounted_once(alloc: Global) -> (Option<usize>, Option<usize>, Option<usize>) 
 }
 
 #[test]
-fn a_prefix_is_mounted_once(rt: HostRuntime) -> Result<(), Fail> {
-    assert_eq!(rt; mounted_once(rt.alloc()), (None, Some(2), Some(1)));
-    Ok(())
+fn a_prefix_is_mounted_once(rt: HostRuntime) {
+    assert!(rt; mounted_once(rt.alloc()) == (None, Some(2), Some(1)));
+}
+
+/// Whether a session is refused by these.
+fn is_closed<R: RandomSource + AllocGlobal>(rt: &R, prefixes: &[&str]) -> bool {
+    mounted_run(rt, prefixes, USUAL, CLOSED).unwrap_or(false)
 }
 
 #[test]
-fn a_session_goes_to_the_application_of_its_path(rt: HostRuntime) -> Result<(), Fail> {
-    assert_eq!(rt; mounted_run(&rt, TWO, USUAL, CLOSED), Ok(true));
-    assert_eq!(rt; mounted_run(&rt, NONE, USUAL, CLOSED), Ok(true));
-    Ok(())
+fn a_session_goes_to_the_application_of_its_path(rt: HostRuntime) {
+    assert!(rt; is_closed(&rt, TWO) && is_closed(&rt, NONE));
 }
 
 const FAILED: Row = (
@@ -253,39 +247,37 @@ fn run_two<R: RandomSource + AllocGlobal>(rt: &R) -> Result<bool, AppFault> {
 }
 
 #[test]
-fn the_first_application_gets_the_lifespan(rt: HostRuntime) -> Result<(), Fail> {
-    assert_eq!(rt; run_two(&rt), Ok(true));
-    Ok(())
+fn the_first_application_gets_the_lifespan(rt: HostRuntime) {
+    assert!(rt; run_two(&rt).unwrap_or(false));
 }
 
 const STARTED: Row = (Kind::Lifespan, &[Startup], "");
 
+/// Whether the start of these fails.
+fn is_failed<R: RandomSource + AllocGlobal>(rt: &R, prefixes: &[&str]) -> bool {
+    matches!(
+        mounted_run(rt, prefixes, USUAL, STARTED),
+        Err(AppFault::Failed)
+    )
+}
+
 #[test]
-fn with_no_application_there_is_no_lifespan(rt: HostRuntime) -> Result<(), Fail> {
-    assert_eq!(rt;
-        mounted_run(&rt, NONE, USUAL, STARTED),
-        Err(AppFault::Failed)
-    );
-    assert_eq!(rt;
-        mounted_run(&rt, TWO, USUAL, STARTED),
-        Err(AppFault::Failed)
-    );
-    Ok(())
+fn with_no_application_there_is_no_lifespan(rt: HostRuntime) {
+    assert!(rt; is_failed(&rt, NONE) && is_failed(&rt, TWO));
 }
 
 /// If an allocation is refused, the fault reports it, and the next call answers whole.
-fn run_path_at_last<R: RandomSource + AllocGlobal>(rt: &R, given: &Path) -> Result<bool, AppFault> {
+fn is_said_at_last<R: RandomSource + AllocGlobal>(rt: &R, given: &Path) -> bool {
     match run_path(rt, given) {
-        Err(AppFault::NoMemory(_)) => run_path(rt, given),
-        answer => answer,
+        Ok(is_same) => is_same,
+        Err(AppFault::NoMemory(_)) => is_said(rt, given),
+        Err(AppFault::Failed) => false,
     }
 }
 
 #[test]
-fn memory_for_mounts(rt: HostRuntime) -> Result<(), Fail> {
-    assert_eq!(rt; run_path_at_last(&rt, &UNDER_ROOT), Ok(true));
-    assert_eq!(rt; run_path_at_last(&rt, &NOWHERE), Ok(true));
-    Ok(())
+fn memory_for_mounts(rt: HostRuntime) {
+    assert!(rt; is_said_at_last(&rt, &UNDER_ROOT) && is_said_at_last(&rt, &NOWHERE));
 }
 
 /// If the table does not grow, the mount is refused, and what was mounted stays: whether that is
@@ -309,7 +301,6 @@ fn one_more_mount(alloc: Global) -> (bool, Option<usize>) {
 }
 
 #[test]
-fn memory_for_one_more_mount(rt: HostRuntime) -> Result<(), Fail> {
-    assert_eq!(rt; one_more_mount(rt.alloc()), (true, Some(0)));
-    Ok(())
+fn memory_for_one_more_mount(rt: HostRuntime) {
+    assert!(rt; one_more_mount(rt.alloc()) == (true, Some(0)));
 }

@@ -9,7 +9,7 @@ use std::alloc::{AllocError, Global};
 use std::test::Fail;
 
 /// Responds to each request with its method, and with its path after it, a body each.
-#[derive(Clone, Copy, Debug)]
+#[derive(Clone, Copy)]
 struct Repeats;
 
 impl Application for Repeats {
@@ -43,7 +43,7 @@ fn body(alloc: Global, text: &str, more_body: bool) -> Outgoing {
 }
 
 /// Responds to each request with this many letters, one a body.
-#[derive(Clone, Copy, Debug)]
+#[derive(Clone, Copy)]
 struct Counts(u8);
 
 #[derive(Drop)]
@@ -114,7 +114,7 @@ fn an_application_of_ones_own_needs_no_proof(rt: HostRuntime) -> Result<(), Fail
 }
 
 /// Responds to a request with a field of this value, if a field may have it.
-#[derive(Clone, Copy, Debug)]
+#[derive(Clone, Copy)]
 struct Shows(&'static str);
 
 impl Application for Shows {
@@ -139,10 +139,12 @@ impl Application for Shows {
 
 const SHOWN: &[Row] = &[(Kind::Http, SILENCE, "start 200 x-a=q|last |returned")];
 
+const REFUSED: &[Row] = &[(Kind::Http, SILENCE, "faulted")];
+
 #[test]
 fn a_refused_field_is_a_fault(rt: HostRuntime) -> Result<(), Fail> {
     check(&rt, Shows("q"), SHOWN)?;
-    check(&rt, Shows("q\r\n"), &[(Kind::Http, SILENCE, "faulted")])
+    check(&rt, Shows("q\r\n"), REFUSED)
 }
 
 #[test]
@@ -151,7 +153,7 @@ fn memory_for_a_field(rt: HostRuntime) -> Result<(), Fail> {
 }
 
 /// Receives a request whole, and then responds with its body, in a list of two events.
-#[derive(Clone, Copy, Debug)]
+#[derive(Clone, Copy)]
 struct Repeated;
 
 #[derive(Drop)]
@@ -240,7 +242,7 @@ fn a_list_is_sent_after_a_request_was_received(rt: HostRuntime) -> Result<(), Fa
 }
 
 /// Responds as `Counts` does, by a task that names only the results that it waits for.
-#[derive(Clone, Copy, Debug)]
+#[derive(Clone, Copy)]
 struct CountsDown(u8);
 
 #[derive(Drop)]
@@ -275,7 +277,7 @@ impl AppTask for CountsDownTask {
 }
 
 /// Sends each part of a request back, by a send in an `if let`.
-#[derive(Clone, Copy, Debug)]
+#[derive(Clone, Copy)]
 struct Returns;
 
 #[derive(Drop)]

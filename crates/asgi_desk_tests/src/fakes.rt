@@ -84,6 +84,11 @@ pub fn hand_in_all<T: Teller<u64> + Drop, R: Wait>(
     Ok(seat)
 }
 
+/// Whether as many are told as are there without a gap, of these that were handed in.
+fn is_told(heard: &AtomicU64, numbers: &[u64]) -> bool {
+    heard.load(Ordering::SeqCst) == run_of(numbers)
+}
+
 /// What became of this teller: one thread handed in the reports of these numbers to it, and looked after each how many it
 /// got.
 pub fn told<T: Teller<u64> + Drop, R: Wait + Abort>(
@@ -99,11 +104,7 @@ pub fn told<T: Teller<u64> + Drop, R: Wait + Abort>(
     };
     for index in 0..order.len() {
         hand_in(rt, alloc, &desk, &mut seat, order[index])?;
-        assert_eq!(rt;
-            heard.load(Ordering::SeqCst),
-            run_of(&order[..index + 1]),
-            "told after {index}"
-        );
+        assert!(rt; is_told(heard, &order[..index + 1]), "told after {index}");
     }
     let (teller, _reports) = desk.close(rt, seat);
     Ok(teller)
@@ -135,8 +136,13 @@ pub fn run_of(numbers: &[u64]) -> u64 {
     run
 }
 
+/// Whether this listener got as many, of 1, 2, 3 .., in this order.
+pub fn has_got(listener: &Listener<'_>, count: usize) -> bool {
+    is_in_order(&listener.numbers) && listener.numbers.len() == count
+}
+
 /// Whether these are the reports of 1, 2, 3 .., in this order.
-pub fn is_in_order(reports: &[(u64, u64)]) -> bool {
+fn is_in_order(reports: &[(u64, u64)]) -> bool {
     let mut next = 0u64;
     for (number, report) in reports {
         next = next.saturating_add(1);
