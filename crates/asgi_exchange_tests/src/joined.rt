@@ -83,6 +83,6 @@ fn holding(alloc: Global, rows: &[Row]) -> Result<usize, AllocError> {
 #[test]
 fn ends_meet_with_what_is_left(rt: HostRuntime) -> Result<(), Fail> {
     let held = holding(rt.alloc(), ROWS)?;
-    assert_eq!(rt; held, ROWS.len());
+    assert!(rt; held == ROWS.len(), "row {held}");
     Ok(())
 }

@@ -22,7 +22,7 @@ enum Call {
 }
 
 /// What a call returns.
-#[derive(Clone, Copy, Debug, PartialEq, Eq)]
+#[derive(Clone, Copy, PartialEq, Eq)]
 pub(crate) enum Answer {
     Yes,
     No,
@@ -151,7 +151,7 @@ fn shown(event: &Outgoing) -> Answer {
 }
 
 fn octets(alloc: Global, byte: u8) -> Result<Octets, AllocError> {
-    Ok(Octets::new([byte].as_slice().to_vec(alloc)?))
+    Ok(Octets::new(vec![in alloc; byte; 1]?))
 }
 
 fn body_heard(alloc: Global, byte: u8) -> Result<Incoming, AllocError> {
@@ -194,14 +194,14 @@ fn answer_at(
     }
 }
 
-/// The first row whose result differs, with that result.
-type Other = Option<(usize, Answer)>;
+/// The first row whose result differs.
+type Other = Option<usize>;
 
 fn run(alloc: Global, cx: &mut Context<'_>, pair: &mut Pair) -> Result<Other, AllocError> {
     for (index, row) in CALLS.iter().enumerate() {
         let answer = answer_at(alloc, cx, pair, row.0)?;
-        if answer != row.1 {
-            return Ok(Some((index, answer)));
+        if (answer, index) != (row.1, index) {
+            return Ok(Some(index));
         }
     }
     Ok(None)
@@ -233,6 +233,6 @@ pub(crate) fn facts(alloc: Global) -> Facts {
 fn calls_of_a_plain_pair(rt: HostRuntime) -> Result<(), Fail> {
     let solo = Solo::new(&rt, Doorbell::spinning())?;
     let other = run_fresh(rt.alloc(), &solo)?;
-    assert_eq!(rt; other, None);
+    assert!(rt; other.is_none(), "row {other:?}");
     Ok(())
 }
