@@ -7,11 +7,11 @@ use asgi_types::{Chars, Payload, WsScope};
 use std::alloc::Global;
 
 /// A room of people, each with the parameter `name`.
-#[derive(Clone, Copy, Debug)]
+#[derive(Clone, Copy)]
 pub struct Chat;
 
 /// Someone in it, who says each text again after the name, and the name unasked.
-#[derive(Debug, Drop)]
+#[derive(Drop)]
 pub struct Member {
     name: Chars,
 }
@@ -28,9 +28,8 @@ impl Room for Chat {
         let Some(name) = param_of(params, "name") else {
             return Ok(Opened::Refused);
         };
-        let name = chars(alloc, name)?;
-        let subprotocol = chars(alloc, "chat")?;
-        Ok(Opened::accept(alloc, Member { name }).with_subprotocol(subprotocol))
+        let name = Chars::new(String::from_str(alloc, name)?);
+        Ok(Opened::accept(alloc, Member { name }).with_subprotocol(chars(alloc, "chat")))
     }
 }
 
@@ -51,11 +50,11 @@ impl Tells for Member {
 }
 
 /// A room with a field of its own, whose sessions send each message back.
-#[derive(Clone, Copy, Debug)]
+#[derive(Clone, Copy)]
 pub struct Echoes;
 
 /// A session of it.
-#[derive(Clone, Copy, Debug, Drop)]
+#[derive(Clone, Copy, Drop)]
 pub struct Back;
 
 impl Room for Echoes {
@@ -85,7 +84,7 @@ impl Tells for Back {
 }
 
 /// A room that fails, or that refuses each session.
-#[derive(Clone, Copy, Debug)]
+#[derive(Clone, Copy)]
 pub enum Shut {
     Fails,
     Refuses,

@@ -4,7 +4,7 @@ use asgi_handlers::{Reply, Request};
 use asgi_routes::Endpoint;
 
 /// Replies with its name, in small letters.
-#[derive(Clone, Copy, Debug)]
+#[derive(Clone, Copy)]
 pub enum Word {
     Index,
     Added,
@@ -13,19 +13,19 @@ pub enum Word {
 }
 
 /// Replies with the parameter `n`.
-#[derive(Clone, Copy, Debug)]
+#[derive(Clone, Copy)]
 pub struct Item;
 
 /// Replies with the parameters `shop` and `n`.
-#[derive(Clone, Copy, Debug)]
+#[derive(Clone, Copy)]
 pub struct Place;
 
 /// Replies with the parameter `rest`.
-#[derive(Clone, Copy, Debug)]
+#[derive(Clone, Copy)]
 pub struct File;
 
 /// Fails.
-#[derive(Clone, Copy, Debug)]
+#[derive(Clone, Copy)]
 pub struct Fails;
 
 /// What a parameter took, or a word that says that there is none.

@@ -4,18 +4,18 @@ ghost use Rattle.std.specs.Prelude.{◌≡◌, [], IfSome, None, codes};
 ghost use Rattle.asgi_handlers.specs.Params.{param_in};
 ghost use Rattle.asgi_talks.specs.declared.opened.Opened.TheVariants.{Accepted};
 
-use crate::asked::{Row, first_unlike};
-use crate::knocks::{Knock, first_other};
+use crate::asked::{Row, check};
+use crate::knocks::{Knock, knock_all};
 use asgi_apps::AppFault;
 use asgi_handlers::{Reply, Request};
-use asgi_routes::{Endpoint, Room, Rooms, RouteError, Routes, param_of};
+use asgi_routes::{Endpoint, Room, Rooms, Routes, param_of};
 use asgi_talks::{Answer, Opened, Talk, Tells};
 use asgi_types::{Chars, Payload, WsScope};
 use std::alloc::Global;
 use std::test::Fail;
 
 /// Replies with what the parameter `n` took, and promises so.
-#[derive(Clone, Copy, Debug)]
+#[derive(Clone, Copy)]
 struct Returns;
 
 impl Endpoint for Returns {
@@ -44,23 +44,19 @@ const RETURNED: &[Row] = &[
     ),
 ];
 
-fn unlike(alloc: Global) -> Result<Option<usize>, RouteError> {
-    let routes = Routes::new(alloc).get("/{n}", Returns)?;
-    Ok(first_unlike(alloc, &routes, RETURNED))
-}
-
 #[test]
 fn a_promise_is_of_the_parameters(rt: HostRuntime) -> Result<(), Fail> {
-    assert_eq!(rt; unlike(rt.alloc())?, None);
-    Ok(())
+    let alloc: Global = rt.alloc();
+    let routes = Routes::new(alloc).get("/{n}", Returns)?;
+    check(alloc, &routes, RETURNED)
 }
 
 /// Opens sessions that have what the parameter `name` took, and promises so.
-#[derive(Clone, Copy, Debug)]
+#[derive(Clone, Copy)]
 struct Keeps;
 
 /// A session with a name, which it says unasked.
-#[derive(Debug, Drop)]
+#[derive(Drop)]
 struct Kept {
     name: Chars,
 }
@@ -104,13 +100,9 @@ const KEPT: &[Knock] = &[
     Knock("/", "", "refused"),
 ];
 
-fn other(alloc: Global) -> Result<Option<usize>, RouteError> {
-    let rooms = Rooms::new(alloc).room("/{name}", Keeps)?;
-    Ok(first_other(alloc, &rooms, KEPT))
-}
-
 #[test]
 fn a_room_promises_of_the_parameters(rt: HostRuntime) -> Result<(), Fail> {
-    assert_eq!(rt; other(rt.alloc())?, None);
-    Ok(())
+    let alloc: Global = rt.alloc();
+    let rooms = Rooms::new(alloc).room("/{name}", Keeps)?;
+    knock_all(alloc, &rooms, KEPT)
 }

@@ -42,7 +42,7 @@ const ALONE: &[(&str, Option<RouteError>)] = &[
 #[test]
 fn a_pattern_is_well_formed(rt: HostRuntime) {
     for (pattern, why) in ALONE {
-        assert_eq!(rt; alone(rt.alloc(), pattern), *why, "{pattern}");
+        assert!(rt; (alone(rt.alloc(), pattern), 0) == (*why, 0), "{pattern}");
     }
 }
 
@@ -82,11 +82,8 @@ const PAIRS: &[Pair] = &[
 
 #[test]
 fn a_route_is_added_once(rt: HostRuntime) {
-    for (first, other, why) in PAIRS {
-        assert_eq!(rt;
-            second(rt.alloc(), *first, *other),
-            *why,
-            "{first:?} {other:?}"
-        );
+    for (number, (first, other, why)) in PAIRS.iter().enumerate() {
+        let refused = second(rt.alloc(), *first, *other);
+        assert!(rt; (refused, number) == (*why, number), "pair {number}");
     }
 }

@@ -1,8 +1,9 @@
 //! Which room opens a session, with which parameters, and what is refused.
 use crate::chats::{Chat, Echoes, Shut};
-use crate::knocks::{Knock, first_other};
+use crate::knocks::{Knock, knock_all};
 use asgi_routes::{NoRooms, RoomChain, Rooms, RouteError};
 use std::alloc::Global;
+use std::test::Fail;
 
 type House = RoomChain<Echoes, RoomChain<Chat, NoRooms>>;
 
@@ -39,54 +40,49 @@ const MOUNTED: &[Knock] = &[
     Knock("/chat/ann", "/m", "accept chat|ann: hi|ann"),
 ];
 
-/// The number of the first row of which something else comes.
-fn other(alloc: Global, knocks: &[Knock]) -> Option<usize> {
-    match house_at_last(alloc) {
-        Ok(rooms) => first_other(alloc, &rooms, knocks),
-        Err(_) => Some(0),
-    }
+/// Fails with what the first row holds of which something else comes.
+fn check(alloc: Global, knocks: &[Knock]) -> Result<(), Fail> {
+    let rooms = house_at_last(alloc)?;
+    knock_all(alloc, &rooms, knocks)
 }
 
 #[test]
-fn the_room_of_the_pattern_opens(rt: HostRuntime) {
-    assert_eq!(rt; other(rt.alloc(), OPENED), None);
+fn the_room_of_the_pattern_opens(rt: HostRuntime) -> Result<(), Fail> {
+    check(rt.alloc(), OPENED)
 }
 
 #[test]
-fn a_mounted_room_sees_the_path_after_its_mount(rt: HostRuntime) {
-    assert_eq!(rt; other(rt.alloc(), MOUNTED), None);
+fn a_mounted_room_sees_the_path_after_its_mount(rt: HostRuntime) -> Result<(), Fail> {
+    check(rt.alloc(), MOUNTED)
 }
 
 #[test]
-fn memory_for_a_table_of_rooms_and_its_sessions(rt: HostRuntime) {
-    assert_eq!(rt; other(rt.alloc(), OPENED), None);
+fn memory_for_a_table_of_rooms_and_its_sessions(rt: HostRuntime) -> Result<(), Fail> {
+    check(rt.alloc(), OPENED)
 }
 
-/// What comes of a table with this room alone.
-fn alone(alloc: Global, room: Shut) -> Option<usize> {
-    let expected = match room {
-        Shut::Fails => "failed",
-        Shut::Refuses => "refused",
-    };
-    match Rooms::new(alloc).room("/shut", room) {
-        Ok(rooms) => first_other(alloc, &rooms, &[Knock("/shut", "", expected)]),
-        Err(_) => Some(0),
-    }
-}
+const FAILED: &[Knock] = &[Knock("/shut", "", "failed")];
 
-#[test]
-fn a_room_may_fail_or_refuse(rt: HostRuntime) {
-    assert_eq!(rt; alone(rt.alloc(), Shut::Fails), None);
-    assert_eq!(rt; alone(rt.alloc(), Shut::Refuses), None);
+const REFUSED: &[Knock] = &[Knock("/shut", "", "refused")];
+
+/// Fails if something else comes of a table with this room alone.
+fn check_alone(alloc: Global, room: Shut, knocks: &[Knock]) -> Result<(), Fail> {
+    let rooms = Rooms::new(alloc).room("/shut", room)?;
+    knock_all(alloc, &rooms, knocks)
 }
 
 #[test]
-fn a_table_without_rooms_refuses_all(rt: HostRuntime) {
+fn a_room_may_fail_or_refuse(rt: HostRuntime) -> Result<(), Fail> {
+    check_alone(rt.alloc(), Shut::Fails, FAILED)?;
+    check_alone(rt.alloc(), Shut::Refuses, REFUSED)
+}
+
+const ROOMLESS: &[Knock] = &[Knock("/", "", "refused")];
+
+#[test]
+fn a_table_without_rooms_refuses_all(rt: HostRuntime) -> Result<(), Fail> {
     let rooms = Rooms::new(rt.alloc());
-    assert_eq!(rt;
-        first_other(rt.alloc(), &rooms, &[Knock("/", "", "refused")]),
-        None
-    );
+    knock_all(rt.alloc(), &rooms, ROOMLESS)
 }
 
 /// Why the second room is not added after the first.
@@ -115,6 +111,7 @@ const PAIRS: &[(&str, &str, Option<RouteError>)] = &[
 #[test]
 fn a_room_is_added_once(rt: HostRuntime) {
     for (first, other, why) in PAIRS {
-        assert_eq!(rt; second(rt.alloc(), first, other), *why, "{first} {other}");
+        let refused = second(rt.alloc(), first, other);
+        assert!(rt; (refused, 0) == (*why, 0), "{first} {other}");
     }
 }
