@@ -10,11 +10,19 @@ use std::test::Fail;
 type Filled = (&'static [u8], usize, &'static [u8], &'static str);
 
 fn filled_give(rt: &impl Abort, alloc: Global, rows: &[Filled]) -> Result<(), Fail> {
-    for (front, letters, end, wanted) in rows {
-        let bytes = filled(alloc, front, *letters, end)?;
-        gives_in_all_ways(rt, alloc, Setting::Small, &bytes, wanted)?;
+    for row in rows {
+        row_gives(rt, alloc, row)?;
     }
     Ok(())
+}
+
+fn row_gives(
+    rt: &impl Abort,
+    alloc: Global,
+    (front, letters, end, wanted): &Filled,
+) -> Result<(), Fail> {
+    let bytes = filled(alloc, front, *letters, end)?;
+    gives_in_all_ways(rt, alloc, Setting::Small, &bytes, wanted)
 }
 
 const HEADS: &[Filled] = &[

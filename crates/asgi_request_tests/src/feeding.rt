@@ -62,7 +62,7 @@ fn gives_in_two(
 }
 
 pub fn are(rt: &impl Abort, words: &str, wanted: &str, how: &str, count: usize) {
-    assert_eq!(rt; words, wanted, "{how} {count}");
+    assert!(rt; words == wanted, "{how} {count}: {words}");
 }
 
 /// What the reader gives for the bytes, fed in pieces of `size`.

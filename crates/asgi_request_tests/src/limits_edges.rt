@@ -28,11 +28,20 @@ fn filled_give(
     sizes: &[usize],
     rows: &[Filled],
 ) -> Result<(), Fail> {
-    for (letters, end, wanted) in rows {
-        let bytes = filled(alloc, FRONT, *letters, end)?;
-        gives_in_pieces(rt, alloc, Setting::Greatest(16_384), &bytes, sizes, wanted)?;
+    for row in rows {
+        row_gives(rt, alloc, sizes, row)?;
     }
     Ok(())
+}
+
+fn row_gives(
+    rt: &impl Abort,
+    alloc: Global,
+    sizes: &[usize],
+    (letters, end, wanted): &Filled,
+) -> Result<(), Fail> {
+    let bytes = filled(alloc, FRONT, *letters, end)?;
+    gives_in_pieces(rt, alloc, Setting::Greatest(16_384), &bytes, sizes, wanted)
 }
 
 /// Whole, in two pieces and in many.
@@ -135,18 +144,16 @@ fn add_other(bytes: &mut Vec<u8>, digits: [u8; 3]) -> Result<(), AllocError> {
 
 const FIELDS: &[(usize, &'static str)] = &[(126, SERVED), (127, SERVED), (128, " bad 400")];
 
+/// The head with this many other fields gives these words.
+fn fields_give(rt: &impl Abort, alloc: Global, others: usize, wanted: &str) -> Result<(), Fail> {
+    let bytes = head_with(alloc, others)?;
+    gives_in_pieces(rt, alloc, Setting::Greatest(16_384), &bytes, SIZES, wanted)
+}
+
 #[test]
 fn a_head_has_128_fields_at_most(rt: HostRuntime) -> Result<(), Fail> {
     for (others, wanted) in FIELDS {
-        let bytes = head_with(rt.alloc(), *others)?;
-        gives_in_pieces(
-            &rt,
-            rt.alloc(),
-            Setting::Greatest(16_384),
-            &bytes,
-            SIZES,
-            wanted,
-        )?;
+        fields_give(&rt, rt.alloc(), *others, wanted)?;
     }
     Ok(())
 }

@@ -249,7 +249,7 @@ const FRAMED: &[Framed] = &[
 ];
 
 fn has_framing(head: &HeadRecord, framing: &HeadFraming) -> bool {
-    framing_of(head, &Limits::usual()) == *framing
+    (framing_of(head, &Limits::usual()), 0) == (*framing, 0)
 }
 
 fn is_framed(alloc: Global, row: &Framed) -> Result<bool, HeaderError> {
@@ -270,7 +270,7 @@ fn framed(alloc: Global, rows: &[Framed]) -> Result<usize, HeaderError> {
 #[test]
 fn a_record_has_a_framing(rt: HostRuntime) -> Result<(), Fail> {
     let count = framed(rt.alloc(), FRAMED)?;
-    assert_eq!(rt; count, FRAMED.len());
+    assert!(rt; count == FRAMED.len(), "row {count}");
     Ok(())
 }
 

@@ -47,7 +47,7 @@ pub fn answer(
     calls: &[Call],
 ) -> Result<(), Fail> {
     let count = answered(&mut new_reader(alloc, setting), calls)?;
-    assert_eq!(rt; count, calls.len());
+    assert!(rt; count == calls.len(), "call {count}");
     Ok(())
 }
 
