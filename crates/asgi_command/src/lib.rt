@@ -3,15 +3,15 @@
 #![tactic(auto)]
 
 mod apps;
-mod command;
 mod ending;
 mod listens;
+mod program;
 mod reports;
 mod serve;
 mod telling;
 mod words;
 
-pub use command::{command, without_words};
 pub use listens::Listens;
+pub use program::{command, without_words};
 pub use serve::serve_on;
 pub use words::{App, Command};

@@ -1,6 +1,6 @@
 use Rattle.std.proofs.Common.{refl}
 use Rattle.asgi_command.proofs.ServingLemmas.{port_as_named, port_mounted, port_unserved}
-use Rattle.asgi_command.proofs.command.serve_by.Goals as goal
+use Rattle.asgi_command.proofs.program.serve_by.Goals as goal
 
 pub returns-in-Hello-clause-serves : goal.returns-in-Hello-clause-serves
 returns-in-Hello-clause-serves g c =

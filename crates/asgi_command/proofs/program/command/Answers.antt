@@ -3,7 +3,7 @@ use Rattle.asgi_command.specs.Words.{Asks}
 use Rattle.asgi_command.proofs.WordLemmas.{one_once, one_port}
 use Rattle.asgi_command.proofs.ServingLemmas.{as_named, asked_for, port_asked}
 use Rattle.asgi_command.specs.declared.words.Command.TheVariants.{Once, Serve}
-use Rattle.asgi_command.proofs.command.command.Goals as goal
+use Rattle.asgi_command.proofs.program.command.Goals as goal
 
 pub returns-in-None-clause-serves : goal.returns-in-None-clause-serves
 returns-in-None-clause-serves g c = λ a is. absurd (c.in-None.ensures.none (Once a) is)

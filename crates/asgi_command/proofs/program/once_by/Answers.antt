@@ -1,5 +1,5 @@
 use Rattle.asgi_command.proofs.ServingLemmas.{as_named, once_mounted}
-use Rattle.asgi_command.proofs.command.once_by.Goals as goal
+use Rattle.asgi_command.proofs.program.once_by.Goals as goal
 
 pub returns-in-Hello : goal.returns-in-Hello
 returns-in-Hello g c = as_named _ _ _ _ _ c.in-Hello.is c.once.ensures

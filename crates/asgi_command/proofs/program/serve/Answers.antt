@@ -1,5 +1,5 @@
 use Rattle.asgi_command.proofs.ServingLemmas.{served_whole}
-use Rattle.asgi_command.proofs.command.serve.Goals as goal
+use Rattle.asgi_command.proofs.program.serve.Goals as goal
 
 pub returns : goal.returns
 returns g c =
