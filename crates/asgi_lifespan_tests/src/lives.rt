@@ -202,18 +202,39 @@ impl Application for Refuses {
 #[derive(Clone, Copy)]
 pub struct Silent;
 
-impl Application for Silent {
-    type Task = Says;
+/// Its task promises nothing, so that nothing is to be proved of the list.
+#[derive(Drop)]
+pub struct SilentTask(Says);
 
-    fn call(&self, alloc: Global, scope: &Scope) -> Result<Says, AppFault> {
+impl Application for Silent {
+    type Task = SilentTask;
+
+    fn call(&self, alloc: Global, scope: &Scope) -> Result<SilentTask, AppFault> {
         let Scope::Lifespan(_) = scope else {
             return Err(AppFault::Failed);
         };
-        let mut says = Says::with_room(alloc, Kind::Lifespan, 2)?;
-        says.add(complete(alloc, 5)?)?;
-        says.add(Outgoing::ShutdownComplete)?;
-        Ok(says)
+        Ok(SilentTask(answers(alloc)?))
     }
+}
+
+/// The answers to "Startup" and to "Shutdown".
+fn answers(alloc: Global) -> Result<Says, AllocError> {
+    let mut says = Says::with_room(alloc, Kind::Lifespan, 2)?;
+    add_answers(&mut says, alloc)?;
+    Ok(says)
+}
+
+fn add_answers(says: &mut Says, alloc: Global) -> Result<(), AllocError> {
+    says.add(complete(alloc, 5)?)?;
+    says.add(Outgoing::ShutdownComplete)
+}
+
+impl AppTask for SilentTask {
+    fn poll<E: AppEnd>(&mut self, cx: &mut Context<'_>, end: &mut E) -> Poll<Result<(), AppFault>> {
+        self.0.send(cx, end)
+    }
+
+    ghost keeps = { λ _ _ _ _ _. tt };
 }
 
 /// How a call was answered.
@@ -310,8 +331,8 @@ pub type Row = (&'static [Step], (u32, u64), Answers);
 
 /// Whether the row's application answers like this.
 fn holds<R: RandomSource + AllocGlobal>(rt: &R, solo: &Solo, row: &Row) -> bool {
-    let (steps, (idle_turns, turns), expected) = *row;
-    run(rt, solo, &limits(idle_turns, turns), &Scripted(steps)) == expected
+    let answers = run(rt, solo, &limits(row.1.0, row.1.1), &Scripted(row.0));
+    (answers, 0) == (row.2, 0)
 }
 
 /// The first row that does not hold, or how many there are.
@@ -469,8 +490,8 @@ const GREATEST_RING: usize = 1_024;
 
 /// Starts and stops an application, with this many places each way.
 fn answers_over<R: RandomSource + AllocGlobal>(rt: &R, ring: usize) -> Result<Answers, Fail> {
-    let solo = solo_of(rt)?;
     let limits = Limits::new(64, 1, 0, 1, ring, 3, 100)?;
+    let solo = solo_of(rt)?;
     Ok(run(rt, &solo, &limits, &Scripted(WHOLE.0)))
 }
 
