@@ -16,7 +16,7 @@ use std::random::RandomSource;
 use std::test::Fail;
 
 /// What a scripted task does in one poll.
-#[derive(Clone, Copy, Debug)]
+#[derive(Clone, Copy)]
 pub enum Step {
     /// Receives an event, which is to be "Startup", or waits for one.
     HearsStartup,
@@ -41,7 +41,7 @@ use Step::{
 };
 
 /// An application whose task takes these steps, and then waits for good.
-#[derive(Clone, Copy, Debug)]
+#[derive(Clone, Copy)]
 pub struct Scripted(pub &'static [Step]);
 
 #[derive(Drop)]
@@ -143,8 +143,7 @@ impl ScriptedTask {
                 go_on(cx, step)
             }
             Sent::Full(_) => Poll::Pending,
-            Sent::Ignored => Poll::Ready(Err(AppFault::Failed)),
-            Sent::Refused(_, _) => Poll::Ready(Err(AppFault::Failed)),
+            _ => Poll::Ready(Err(AppFault::Failed)),
         }
     }
 }
@@ -188,7 +187,7 @@ impl AppTask for ScriptedTask {
 }
 
 /// An application whose call faults.
-#[derive(Clone, Copy, Debug)]
+#[derive(Clone, Copy)]
 pub struct Refuses;
 
 impl Application for Refuses {
@@ -200,25 +199,46 @@ impl Application for Refuses {
 }
 
 /// An application that sends all at once, and receives nothing.
-#[derive(Clone, Copy, Debug)]
+#[derive(Clone, Copy)]
 pub struct Silent;
 
-impl Application for Silent {
-    type Task = Says;
+/// Its task promises nothing, so that nothing is to be proved of the list.
+#[derive(Drop)]
+pub struct SilentTask(Says);
 
-    fn call(&self, alloc: Global, scope: &Scope) -> Result<Says, AppFault> {
+impl Application for Silent {
+    type Task = SilentTask;
+
+    fn call(&self, alloc: Global, scope: &Scope) -> Result<SilentTask, AppFault> {
         let Scope::Lifespan(_) = scope else {
             return Err(AppFault::Failed);
         };
-        let mut says = Says::with_room(alloc, Kind::Lifespan, 2)?;
-        says.add(complete(alloc, 5)?)?;
-        says.add(Outgoing::ShutdownComplete)?;
-        Ok(says)
+        Ok(SilentTask(answers(alloc)?))
     }
 }
 
+/// The answers to "Startup" and to "Shutdown".
+fn answers(alloc: Global) -> Result<Says, AllocError> {
+    let mut says = Says::with_room(alloc, Kind::Lifespan, 2)?;
+    add_answers(&mut says, alloc)?;
+    Ok(says)
+}
+
+fn add_answers(says: &mut Says, alloc: Global) -> Result<(), AllocError> {
+    says.add(complete(alloc, 5)?)?;
+    says.add(Outgoing::ShutdownComplete)
+}
+
+impl AppTask for SilentTask {
+    fn poll<E: AppEnd>(&mut self, cx: &mut Context<'_>, end: &mut E) -> Poll<Result<(), AppFault>> {
+        self.0.send(cx, end)
+    }
+
+    ghost keeps = { λ _ _ _ _ _. tt };
+}
+
 /// How a call was answered.
-#[derive(Clone, Copy, Debug, PartialEq, Eq)]
+#[derive(Clone, Copy, PartialEq, Eq)]
 pub enum Told {
     /// With this number in the state.
     Started(u64),
@@ -310,9 +330,9 @@ pub fn solo_of<R: RandomSource + AllocGlobal>(rt: &R) -> Result<Solo, Fail> {
 pub type Row = (&'static [Step], (u32, u64), Answers);
 
 /// Whether the row's application answers like this.
-pub fn holds<R: RandomSource + AllocGlobal>(rt: &R, solo: &Solo, row: &Row) -> bool {
-    let (steps, (idle_turns, turns), expected) = *row;
-    run(rt, solo, &limits(idle_turns, turns), &Scripted(steps)) == expected
+fn holds<R: RandomSource + AllocGlobal>(rt: &R, solo: &Solo, row: &Row) -> bool {
+    let answers = run(rt, solo, &limits(row.1.0, row.1.1), &Scripted(row.0));
+    (answers, 0) == (row.2, 0)
 }
 
 /// The first row that does not hold, or how many there are.
@@ -325,21 +345,33 @@ fn holding<R: RandomSource + AllocGlobal>(rt: &R, solo: &Solo, rows: &[Row]) -> 
     rows.len()
 }
 
-fn check<R: Abort + RandomSource + AllocGlobal>(rt: &R, rows: &[Row]) -> Result<(), Fail> {
+fn held<R: RandomSource + AllocGlobal>(rt: &R, rows: &[Row]) -> Result<usize, Fail> {
     let solo = solo_of(rt)?;
-    let held = holding(rt, &solo, rows);
-    assert_eq!(rt; held, rows.len());
+    Ok(holding(rt, &solo, rows))
+}
+
+fn check<R: Abort + RandomSource + AllocGlobal>(rt: &R, rows: &[Row]) -> Result<(), Fail> {
+    let held = held(rt, rows)?;
+    assert!(rt; held == rows.len(), "row {held}");
     Ok(())
 }
 
 pub const AMPLE: (u32, u64) = (3, 100);
 
-pub const STARTED: &[Row] = &[
-    (
-        &[HearsStartup, Started(7), HearsShutdown, Stopped, Returns],
-        AMPLE,
-        (Told::Started(7), Told::Stopped, 0),
-    ),
+const WHOLE: Row = (
+    &[HearsStartup, Started(7), HearsShutdown, Stopped, Returns],
+    AMPLE,
+    (Told::Started(7), Told::Stopped, 0),
+);
+
+const STOP_FAILS: Row = (
+    &[HearsStartup, Started(7), HearsShutdown, StopFailed],
+    AMPLE,
+    (Told::Started(7), Told::NoDisk, 0),
+);
+
+const STARTED: &[Row] = &[
+    WHOLE,
     // The answer of the last turn counts, and the stop counts its turns anew.
     (
         &[
@@ -360,11 +392,7 @@ pub const STARTED: &[Row] = &[
         AMPLE,
         (Told::Started(0), Told::Stopped, 0),
     ),
-    (
-        &[HearsStartup, Started(7), HearsShutdown, StopFailed],
-        AMPLE,
-        (Told::Started(7), Told::NoDisk, 0),
-    ),
+    STOP_FAILS,
     (
         &[HearsStartup, Started(7), HearsShutdown],
         AMPLE,
@@ -453,25 +481,23 @@ fn answers_of<R: RandomSource + AllocGlobal, A: Application>(
 
 #[test]
 fn call_that_faults_is_unsupported(rt: HostRuntime) -> Result<(), Fail> {
-    let answers = answers_of(&rt, &Refuses)?;
-    assert_eq!(rt; answers, (Told::Unsupported, Told::Nothing, 0));
+    assert!(rt; answers_of(&rt, &Refuses)? == (Told::Unsupported, Told::Nothing, 0));
     Ok(())
 }
 
 /// As many events wait each way as limits allow.
 const GREATEST_RING: usize = 1_024;
 
-/// Starts and stops the application of the first row, with this many places each way.
+/// Starts and stops an application, with this many places each way.
 fn answers_over<R: RandomSource + AllocGlobal>(rt: &R, ring: usize) -> Result<Answers, Fail> {
-    let solo = solo_of(rt)?;
     let limits = Limits::new(64, 1, 0, 1, ring, 3, 100)?;
-    Ok(run(rt, &solo, &limits, &Scripted(STARTED[0].0)))
+    let solo = solo_of(rt)?;
+    Ok(run(rt, &solo, &limits, &Scripted(WHOLE.0)))
 }
 
 #[test]
 fn a_life_over_the_greatest_ring(rt: HostRuntime) -> Result<(), Fail> {
-    let answers = answers_over(&rt, GREATEST_RING)?;
-    assert_eq!(rt; answers, STARTED[0].2);
+    assert!(rt; answers_over(&rt, GREATEST_RING)? == WHOLE.2);
     Ok(())
 }
 
@@ -479,52 +505,54 @@ const SILENT: Answers = (Told::Started(5), Told::Stopped, 0);
 
 #[test]
 fn events_said_unheard_are_answers(rt: HostRuntime) -> Result<(), Fail> {
-    let answers = answers_of(&rt, &Silent)?;
-    assert_eq!(rt; answers, SILENT);
+    assert!(rt; answers_of(&rt, &Silent)? == SILENT);
     Ok(())
 }
 
 // `tests/memory.py` runs these with each allocation refused in turn; with ample memory none is refused.
 
 /// If an allocation is refused, the answers are some of these, and the next call answers whole.
-fn check_memory<R: Abort + RandomSource + AllocGlobal, A: Application>(
+fn answers_at_last<R: RandomSource + AllocGlobal, A: Application>(
     rt: &R,
     app: &A,
     expected: Answers,
     refused: &[Answers],
-) -> Result<(), Fail> {
+) -> Result<bool, Fail> {
     let first = answers_of(rt, app)?;
     if first == expected {
-        return Ok(());
+        return Ok(true);
     }
-    assert!(rt; refused.contains(&first));
-    let again = answers_of(rt, app)?;
-    assert_eq!(rt; again, expected);
-    Ok(())
+    Ok(refused.contains(&first) && answers_of(rt, app)? == expected)
 }
 
 const NO_MEMORY: Answers = (Told::NoMemory, Told::Nothing, 0);
 
 const NO_CALL: Answers = (Told::Unsupported, Told::Nothing, 0);
 
+/// A message that can't be made is a fault of the task.
+const FAULTED: Answers = (Told::Started(7), Told::NoMessage, 0);
+
+/// What a start or a stop may answer where memory is refused.
+const OF_ENDS: &[Answers] = &[NO_MEMORY];
+
+const OF_A_CALL: &[Answers] = &[NO_MEMORY, NO_CALL];
+
+const OF_A_MESSAGE: &[Answers] = &[NO_MEMORY, FAULTED];
+
 #[test]
 fn memory_for_the_ends(rt: HostRuntime) -> Result<(), Fail> {
-    check_memory(&rt, &Scripted(STARTED[0].0), STARTED[0].2, &[NO_MEMORY])
+    assert!(rt; answers_at_last(&rt, &Scripted(WHOLE.0), WHOLE.2, OF_ENDS)?);
+    Ok(())
 }
 
 #[test]
 fn memory_for_the_call(rt: HostRuntime) -> Result<(), Fail> {
-    check_memory(&rt, &Silent, SILENT, &[NO_MEMORY, NO_CALL])
+    assert!(rt; answers_at_last(&rt, &Silent, SILENT, OF_A_CALL)?);
+    Ok(())
 }
 
-// A message that can't be made is a fault of the task.
 #[test]
 fn memory_for_a_message(rt: HostRuntime) -> Result<(), Fail> {
-    let faulted = (Told::Started(7), Told::NoMessage, 0);
-    check_memory(
-        &rt,
-        &Scripted(STARTED[3].0),
-        STARTED[3].2,
-        &[NO_MEMORY, faulted],
-    )
+    assert!(rt; answers_at_last(&rt, &Scripted(STOP_FAILS.0), STOP_FAILS.2, OF_A_MESSAGE)?);
+    Ok(())
 }
