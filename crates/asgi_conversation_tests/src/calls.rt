@@ -4,7 +4,7 @@ use asgi_conn::{Host, Outcome};
 use asgi_fakes::texts::{GET, POST, TWO_REQUESTS};
 use asgi_fakes::{Memory, Pieces, Refuses, Way, line_of, serve};
 use asgi_types::{Limits, Scope};
-use std::alloc::Global;
+use std::alloc::{AllocError, Global};
 use std::io;
 use std::process::Abort;
 use std::sync::atomic::{AtomicU64, Ordering};
@@ -29,18 +29,25 @@ impl<A: Application> Application for Counted<A> {
 /// What is read, how the connection ends, and how many calls and exchanges there are.
 type Row = (&'static [&'static [u8]], Outcome, u64);
 
-/// The outcome, the exchanges and the calls.
-type Ended = (Outcome, u64, u64);
-
-fn ended<H: Host, T: AppTask + Send + 'static, A: Application<Task = T>>(
+/// Whether the outcome is the row's, and so are the exchanges and the calls.
+fn is_ended<H: Host, T: AppTask + Send + 'static, A: Application<Task = T>>(
     rt: &H,
     way: Way,
     app: &Counted<A>,
     line: &mut Memory<Pieces>,
-) -> io::Result<Ended> {
+    row: &Row,
+) -> io::Result<bool> {
     let (report, _) = serve(rt, way, &Limits::usual(), app, line)?;
     let calls = app.calls.load(Ordering::SeqCst);
-    Ok((report.outcome, report.exchanges, calls))
+    Ok((report.outcome, report.exchanges, calls) == (row.1, row.2, row.2))
+}
+
+fn joined(alloc: Global, parts: &[&[u8]]) -> Result<Vec<u8>, AllocError> {
+    let mut bytes = Vec::new(alloc);
+    for part in parts {
+        bytes.extend_from_slice(part)?;
+    }
+    Ok(bytes)
 }
 
 /// Whether the row is so, by this application.
@@ -50,17 +57,13 @@ fn is_row<H: Host, T: AppTask + Send + 'static, A: Application<Task = T> + Drop>
     app: A,
     row: &Row,
 ) -> io::Result<bool> {
-    let mut input = Vec::new(rt.alloc());
-    for part in row.0 {
-        input.extend_from_slice(part)?;
-    }
-    let counted = Counted {
-        calls: AtomicU64::new(0),
-        app,
-    };
+    let input = joined(rt.alloc(), row.0)?;
     let mut line = line_of(rt, Pieces::new(&input, 4_096, 4_096))?;
-    Ok(ended(rt, way, &counted, &mut line)? == (row.1, row.2, row.2))
+    let calls = AtomicU64::new(0);
+    is_ended(rt, way, &Counted { calls, app }, &mut line, row)
 }
+
+const WAYS: &[Way] = &[Way::Inline, Way::Beside];
 
 /// Each row in either way.
 fn check<H: Abort + Host, T: AppTask + Send + 'static, A: Application<Task = T> + Copy + Drop>(
@@ -68,9 +71,10 @@ fn check<H: Abort + Host, T: AppTask + Send + 'static, A: Application<Task = T> 
     app: A,
     rows: &[Row],
 ) -> Result<(), Fail> {
-    for way in [Way::Inline, Way::Beside] {
+    for way in WAYS {
         for (place, row) in rows.iter().enumerate() {
-            assert!(rt; is_row(rt, way, app, row)?, "row {place}, {way:?}");
+            let is_so = is_row(rt, *way, app, row)?;
+            assert!(rt; is_so, "row {place}, {way:?}");
         }
     }
     Ok(())

@@ -53,34 +53,82 @@ fn is_row<H: Host>(rt: &H, row: &Row, pieces: Pieces, wanted: &[u8]) -> Result<b
     Ok(is_served(rt, &limits, app, pieces, wanted, end)?)
 }
 
+/// How many bytes come in a read, and the fault that comes before each, if any.
+const SIZES: &[(usize, Option<ErrorKind>)] = &[
+    (4_096, None),
+    (1, None),
+    (7, None),
+    (11, None),
+    (1, Some(ErrorKind::WouldBlock)),
+];
+
+fn pieces_of(input: &[u8], size: usize, before: Option<ErrorKind>) -> Pieces<'_> {
+    let mut pieces = Pieces::new(input, size, size);
+    pieces.before = before;
+    pieces
+}
+
+/// The first piece size with which the row fails.
+fn wrong_size<H: Host>(
+    rt: &H,
+    row: &Row,
+    input: &[u8],
+    wanted: &[u8],
+) -> Result<Option<usize>, Fail> {
+    for (size, before) in SIZES {
+        if !is_row(rt, row, pieces_of(input, *size, *before), wanted)? {
+            return Ok(Some(*size));
+        }
+    }
+    Ok(None)
+}
+
+fn wrong_size_of<H: Host>(rt: &H, row: &Row) -> Result<Option<usize>, Fail> {
+    let input = joined(rt.alloc(), row.2)?;
+    let wanted = joined(rt.alloc(), row.3)?;
+    wrong_size(rt, row, &input, &wanted)
+}
+
 /// Each row, whole and in pieces of three sizes, and byte by byte with a read that would block before each.
 pub fn check<H: Abort + Host>(rt: &H, rows: &[Row]) -> Result<(), Fail> {
     for (place, row) in rows.iter().enumerate() {
-        let input = joined(rt.alloc(), row.2)?;
-        let wanted = joined(rt.alloc(), row.3)?;
-        for size in [4_096, 1, 7, 11] {
-            let pieces = Pieces::new(&input, size, size);
-            assert!(rt;
-                is_row(rt, row, pieces, &wanted)?,
-                "row {place}, pieces of {size}"
-            );
-        }
-        let mut slow = Pieces::new(&input, 1, 1);
-        slow.before = Some(ErrorKind::WouldBlock);
-        assert!(rt; is_row(rt, row, slow, &wanted)?, "row {place}, with waits");
+        let size = wrong_size_of(rt, row)?;
+        assert!(rt;
+            size.is_none(),
+            "row {place}, pieces of {}",
+            size.unwrap_or(0)
+        );
     }
     Ok(())
 }
 
-/// Each row, cut in two at each place.
-pub fn check_halves<H: Abort + Host>(rt: &H, rows: &[Row]) -> Result<(), Fail> {
-    for (place, row) in rows.iter().enumerate() {
-        let input = joined(rt.alloc(), row.2)?;
-        let wanted = joined(rt.alloc(), row.3)?;
-        for cut in 1..input.len() {
-            let two = Pieces::new(&input, cut, 4_096);
-            assert!(rt; is_row(rt, row, two, &wanted)?, "row {place}, cut at {cut}");
+/// The first place at which the row fails if its input is cut in two there.
+fn wrong_cut<H: Host>(
+    rt: &H,
+    row: &Row,
+    input: &[u8],
+    wanted: &[u8],
+) -> Result<Option<usize>, Fail> {
+    for cut in 1..input.len() {
+        if !is_row(rt, row, Pieces::new(input, cut, 4_096), wanted)? {
+            return Ok(Some(cut));
         }
+    }
+    Ok(None)
+}
+
+fn wrong_cut_of<H: Host>(rt: &H, row: &Row) -> Result<Option<usize>, Fail> {
+    let input = joined(rt.alloc(), row.2)?;
+    let wanted = joined(rt.alloc(), row.3)?;
+    wrong_cut(rt, row, &input, &wanted)
+}
+
+/// The same, and each row cut in two at each place.
+pub fn check_cut<H: Abort + Host>(rt: &H, rows: &[Row]) -> Result<(), Fail> {
+    check(rt, rows)?;
+    for (place, row) in rows.iter().enumerate() {
+        let cut = wrong_cut_of(rt, row)?;
+        assert!(rt; cut.is_none(), "row {place}, cut at {}", cut.unwrap_or(0));
     }
     Ok(())
 }
@@ -213,8 +261,7 @@ const HEADS: &[Row] = &[
 
 #[test]
 fn a_request_with_no_body(rt: HostRuntime) -> Result<(), Fail> {
-    check(&rt, HEADS)?;
-    check_halves(&rt, HEADS)
+    check_cut(&rt, HEADS)
 }
 
 /// Requests with a body, each alone.
@@ -305,8 +352,7 @@ const BODIES: &[Row] = &[
 
 #[test]
 fn a_request_with_a_body(rt: HostRuntime) -> Result<(), Fail> {
-    check(&rt, BODIES)?;
-    check_halves(&rt, BODIES)
+    check_cut(&rt, BODIES)
 }
 
 /// Bodies that are refused, or end early.
@@ -379,8 +425,7 @@ const BROKEN: &[Row] = &[
 
 #[test]
 fn a_body_that_breaks(rt: HostRuntime) -> Result<(), Fail> {
-    check(&rt, BROKEN)?;
-    check_halves(&rt, BROKEN)
+    check_cut(&rt, BROKEN)
 }
 
 /// One request after another.
@@ -466,8 +511,7 @@ const PIPELINED: &[Row] = &[
 
 #[test]
 fn one_request_after_another(rt: HostRuntime) -> Result<(), Fail> {
-    check(&rt, PIPELINED)?;
-    check_halves(&rt, PIPELINED)
+    check_cut(&rt, PIPELINED)
 }
 
 const PART_AND_FAULT: &[Step] = &[SAYS_START, Step::Says(Said::Part("x")), Step::Faults];
@@ -550,8 +594,7 @@ const FAULTS: &[Row] = &[
 
 #[test]
 fn an_application_that_faults(rt: HostRuntime) -> Result<(), Fail> {
-    check(&rt, FAULTS)?;
-    check_halves(&rt, FAULTS)
+    check_cut(&rt, FAULTS)
 }
 
 /// The texts of some statuses.

@@ -101,7 +101,8 @@ fn is_text(bytes: &[u8], parts: Texts) -> bool {
 
 fn is_so(report: &Report, paused: u64, row: &Row) -> bool {
     let counts = (report.turns, paused, report.idle);
-    counts == row.2 && (report.outcome, report.exchanges, report.faults) == (row.3, row.4, 0)
+    let end = (report.outcome, report.exchanges, report.faults);
+    (counts, end) == (row.2, (row.3, row.4, 0))
 }
 
 fn limits_of(row: &Row) -> Result<Limits, BadLimit> {
@@ -198,18 +199,12 @@ const ECHOES: &[Row] = &[
     ),
 ];
 
-fn first_wrong_echo<H: Host>(rt: &H) -> Result<Option<usize>, Fail> {
-    for (place, row) in ECHOES.iter().enumerate() {
-        if !is_row(rt, &Echo, row)? {
-            return Ok(Some(place));
-        }
-    }
-    Ok(None)
-}
-
 #[test]
 fn a_turn_in_which_nothing_moves_is_idle(rt: HostRuntime) -> Result<(), Fail> {
-    assert_eq!(rt; first_wrong_echo(&rt)?, None);
+    for (place, row) in ECHOES.iter().enumerate() {
+        let is_so = is_row(&rt, &Echo, row)?;
+        assert!(rt; is_so, "row {place}");
+    }
     Ok(())
 }
 
@@ -319,17 +314,11 @@ const LATE: &[(u32, Row)] = &[
     ),
 ];
 
-fn first_wrong_wait<H: Host>(rt: &H) -> Result<Option<usize>, Fail> {
-    for (place, (polls, row)) in LATE.iter().enumerate() {
-        if !is_row(rt, &Late(*polls), row)? {
-            return Ok(Some(place));
-        }
-    }
-    Ok(None)
-}
-
 #[test]
 fn a_task_that_waits_makes_idle_turns_up_to_the_limit(rt: HostRuntime) -> Result<(), Fail> {
-    assert_eq!(rt; first_wrong_wait(&rt)?, None);
+    for (place, (polls, row)) in LATE.iter().enumerate() {
+        let is_so = is_row(&rt, &Late(*polls), row)?;
+        assert!(rt; is_so, "row {place}");
+    }
     Ok(())
 }

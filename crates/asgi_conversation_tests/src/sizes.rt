@@ -2,7 +2,7 @@
 use asgi_apps::{AppFault, AppTask, Application, Says};
 use asgi_conn::{Host, Outcome};
 use asgi_fakes::texts::{ECHO_HEAD, GET, GET_TAKING_TRAILERS, HELLO, LAST_CHUNK, PLAIN_HEAD};
-use asgi_fakes::{App, Pieces, Way, is_served, is_served_so, line_of, serve, text_of};
+use asgi_fakes::{App, Memory, Pieces, Way, is_served, is_served_so, line_of, serve, text_of};
 use asgi_types::{HeaderError, Headers, Kind, Limits, Octets, Outgoing, Scope};
 use std::alloc::{AllocError, Global};
 use std::io;
@@ -31,15 +31,6 @@ fn are_greeted<H: Host>(rt: &H, row: &Row) -> io::Result<bool> {
     is_served_so(rt, way, &Limits::usual(), App::Hello, pieces, &wanted, end)
 }
 
-fn first_not_greeted<H: Host>(rt: &H, rows: &[Row]) -> io::Result<Option<usize>> {
-    for (place, row) in rows.iter().enumerate() {
-        if !are_greeted(rt, row)? {
-            return Ok(Some(place));
-        }
-    }
-    Ok(None)
-}
-
 const A_THOUSAND: &[Row] = &[
     (Way::Inline, 1_001, 27),
     (Way::Inline, 1_001, 4_096),
@@ -49,15 +40,19 @@ const A_THOUSAND: &[Row] = &[
 
 #[test]
 fn each_of_1001_requests_is_answered(rt: HostRuntime) -> Result<(), Fail> {
-    assert_eq!(rt; first_not_greeted(&rt, A_THOUSAND)?, None);
+    for (place, row) in A_THOUSAND.iter().enumerate() {
+        let is_so = are_greeted(&rt, row)?;
+        assert!(rt; is_so, "row {place}");
+    }
     Ok(())
 }
 
-const MANY: &[Row] = &[(Way::Inline, 20_000, 4_096)];
+const MANY: Row = (Way::Inline, 20_000, 4_096);
 
 #[test]
 fn each_of_20000_requests_is_answered(rt: HostRuntime) -> Result<(), Fail> {
-    assert_eq!(rt; first_not_greeted(&rt, MANY)?, None);
+    let is_so = are_greeted(&rt, &MANY)?;
+    assert!(rt; is_so);
     Ok(())
 }
 
@@ -128,7 +123,8 @@ fn is_echoed<H: Host>(rt: &H, limits: &Limits) -> io::Result<bool> {
 #[test]
 fn a_body_of_two_great_events_is_echoed(rt: HostRuntime) -> Result<(), Fail> {
     let limits = Limits::new(16_384, 64, 1_048_576, 65_536, 16, 30_000, 1_000_000)?;
-    assert!(rt; is_echoed(&rt, &limits)?);
+    let is_so = is_echoed(&rt, &limits)?;
+    assert!(rt; is_so);
     Ok(())
 }
 
@@ -169,27 +165,50 @@ fn much_twice(alloc: Global) -> Result<Vec<u8>, AllocError> {
     Ok(text)
 }
 
-/// How a connection with this request twice ends, its exchanges, and whether this is written.
-fn said<H: Host, T: AppTask + Send + 'static, A: Application<Task = T>>(
+/// Whether both requests of the line are answered by this.
+fn is_said_over<H: Host, T: AppTask + Send + 'static, A: Application<Task = T>>(
     rt: &H,
     way: Way,
     app: &A,
+    line: &mut Memory<Pieces>,
+    wanted: &[u8],
+) -> io::Result<bool> {
+    let (report, _) = serve(rt, way, &Limits::usual(), app, line)?;
+    Ok((report.outcome, report.exchanges) == (Outcome::Finished, 2) && text_of(line) == wanted)
+}
+
+fn is_said_so<H: Host, T: AppTask + Send + 'static, A: Application<Task = T>>(
+    rt: &H,
+    way: Way,
+    app: &A,
+    input: &[u8],
+    wanted: &[u8],
+) -> io::Result<bool> {
+    let mut line = line_of(rt, Pieces::new(input, 4_096, 4_096))?;
+    is_said_over(rt, way, app, &mut line, wanted)
+}
+
+/// Whether this request, twice, is answered by this, in either way.
+fn is_said<H: Host, T: AppTask + Send + 'static, A: Application<Task = T>>(
+    rt: &H,
+    app: &A,
     request: &[u8],
     wanted: &[u8],
-) -> io::Result<(Outcome, u64, bool)> {
+) -> io::Result<bool> {
     let input = repeated(rt.alloc(), request, 2)?;
-    let mut line = line_of(rt, Pieces::new(&input, 4_096, 4_096))?;
-    let (report, _) = serve(rt, way, &Limits::usual(), app, &mut line)?;
-    Ok((report.outcome, report.exchanges, text_of(&line) == wanted))
+    let inline = is_said_so(rt, Way::Inline, app, &input, wanted)?;
+    Ok(inline && is_said_so(rt, Way::Beside, app, &input, wanted)?)
+}
+
+fn is_much_said<H: Host>(rt: &H) -> io::Result<bool> {
+    let wanted = much_twice(rt.alloc())?;
+    is_said(rt, &SaysMuch, GET, &wanted)
 }
 
 #[test]
 fn an_event_of_100000_bytes_is_written(rt: HostRuntime) -> Result<(), Fail> {
-    let wanted = much_twice(rt.alloc())?;
-    for way in [Way::Inline, Way::Beside] {
-        let ended = said(&rt, way, &SaysMuch, GET, &wanted)?;
-        assert_eq!(rt; ended, (Outcome::Finished, 2, true));
-    }
+    let is_so = is_much_said(&rt)?;
+    assert!(rt; is_so);
     Ok(())
 }
 
@@ -248,13 +267,15 @@ fn trailed_twice(alloc: Global) -> Result<Vec<u8>, AllocError> {
     Ok(text)
 }
 
+fn is_trailed<H: Host>(rt: &H) -> io::Result<bool> {
+    let wanted = trailed_twice(rt.alloc())?;
+    is_said(rt, &TrailsMuch, GET_TAKING_TRAILERS, &wanted)
+}
+
 #[test]
 fn a_trailer_of_8_kib_is_written(rt: HostRuntime) -> Result<(), Fail> {
-    let wanted = trailed_twice(rt.alloc())?;
-    for way in [Way::Inline, Way::Beside] {
-        let ended = said(&rt, way, &TrailsMuch, GET_TAKING_TRAILERS, &wanted)?;
-        assert_eq!(rt; ended, (Outcome::Finished, 2, true));
-    }
+    let is_so = is_trailed(&rt)?;
+    assert!(rt; is_so);
     Ok(())
 }
 
@@ -295,6 +316,7 @@ fn are_echoed<H: Host>(rt: &H, limits: &Limits) -> io::Result<bool> {
 #[test]
 fn events_go_through_1024_places(rt: HostRuntime) -> Result<(), Fail> {
     let limits = Limits::new(16_384, 64, 1_048_576, 1, 1_024, 30_000, 1_000_000)?;
-    assert!(rt; are_echoed(&rt, &limits)?);
+    let is_so = are_echoed(&rt, &limits)?;
+    assert!(rt; is_so);
     Ok(())
 }

@@ -1,5 +1,5 @@
 //! Responses with trailers: which of their events pass, what is written, and what follows.
-use crate::conversation::{Row, Under, check, check_halves};
+use crate::conversation::{Row, Under, check_cut};
 use asgi_conn::Outcome;
 use asgi_fakes::texts::{
     END, GET, GET_TAKING_TRAILERS, LAST_CHUNK, PLAIN_HEAD, POST, SERVER_ERROR,
@@ -97,8 +97,7 @@ const SENT: &[Row] = &[
 
 #[test]
 fn trailers_follow_the_content_where_the_client_takes_them(rt: HostRuntime) -> Result<(), Fail> {
-    check(&rt, SENT)?;
-    check_halves(&rt, SENT)
+    check_cut(&rt, SENT)
 }
 
 /// Each event of trailers in and out of its place.
@@ -168,8 +167,7 @@ const VERDICTS: &[Row] = &[
 
 #[test]
 fn trailers_out_of_their_place_are_turned_away(rt: HostRuntime) -> Result<(), Fail> {
-    check(&rt, VERDICTS)?;
-    check_halves(&rt, VERDICTS)
+    check_cut(&rt, VERDICTS)
 }
 
 /// Announced trailers that do not come: nothing is added, and the next request is not served.
@@ -215,8 +213,7 @@ const MISSING: &[Row] = &[
 
 #[test]
 fn announced_trailers_that_never_come_end_the_connection(rt: HostRuntime) -> Result<(), Fail> {
-    check(&rt, MISSING)?;
-    check_halves(&rt, MISSING)
+    check_cut(&rt, MISSING)
 }
 
 /// A field whose line has 32 bytes.
@@ -285,8 +282,7 @@ const SECTIONS: &[Row] = &[
 
 #[test]
 fn a_trailer_section_has_the_fields_of_its_events(rt: HostRuntime) -> Result<(), Fail> {
-    check(&rt, SECTIONS)?;
-    check_halves(&rt, SECTIONS)
+    check_cut(&rt, SECTIONS)
 }
 
 /// Responses that have no chunks, and so no trailer section.
@@ -336,6 +332,5 @@ const NOT_CHUNKED: &[Row] = &[
 
 #[test]
 fn only_chunks_have_trailers(rt: HostRuntime) -> Result<(), Fail> {
-    check(&rt, NOT_CHUNKED)?;
-    check_halves(&rt, NOT_CHUNKED)
+    check_cut(&rt, NOT_CHUNKED)
 }

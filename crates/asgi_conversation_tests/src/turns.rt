@@ -2,7 +2,7 @@
 use asgi_conn::{Host, Outcome};
 use asgi_fakes::texts::{BAD_REQUEST, GET, HELLO, TWO_REQUESTS};
 use asgi_fakes::{App, Memory, Never, Pieces, Step, Way, is_served_so, line_of, serve_by, text_of};
-use asgi_types::Limits;
+use asgi_types::{BadLimit, Limits};
 use std::io::{self, ErrorKind, Read};
 use std::test::Fail;
 
@@ -47,7 +47,8 @@ fn is_line_counted<H: Host>(rt: &H, line: &mut Memory<Pieces>, counts: Counts) -
 #[test]
 fn turns_are_counted(rt: HostRuntime) -> Result<(), Fail> {
     for (place, row) in ROWS.iter().enumerate() {
-        assert!(rt; is_counted(&rt, row)?, "row {place}");
+        let is_so = is_counted(&rt, row)?;
+        assert!(rt; is_so, "row {place}");
     }
     Ok(())
 }
@@ -76,28 +77,55 @@ fn line_idles<H: Host, R: Read + Drop>(
     Ok(is_idle && (report.turns, paused, report.idle) == counts)
 }
 
+/// Limits on the idle turns in a row, and on turns.
+fn limited(idle_turns: u32, turns: u64) -> Result<Limits, BadLimit> {
+    Limits::new(64, 64, 0, 1, 2, idle_turns, turns)
+}
+
+/// The two limits, and the counts.
+type Limit = (u32, u64, Counts);
+
+/// For an input that never comes.
+const NOTHING: &[Limit] = &[(3, 100, (3, 3, 3)), (30, 5, (5, 5, 5))];
+
+fn is_silence_over<H: Host>(rt: &H, (idle_turns, turns, counts): &Limit) -> Result<bool, Fail> {
+    let limits = limited(*idle_turns, *turns)?;
+    Ok(idles(rt, &limits, App::Hello, Never, *counts)?)
+}
+
+/// Whether a request, this many bytes a read, is over at its limit.
+fn is_request_over<H: Host>(
+    rt: &H,
+    app: App,
+    size: usize,
+    (idle_turns, turns, counts): &Limit,
+) -> Result<bool, Fail> {
+    let limits = limited(*idle_turns, *turns)?;
+    Ok(idles(rt, &limits, app, Pieces::new(GET, size, size), *counts)?)
+}
+
 #[test]
 fn idle_comes_at_a_limit(rt: HostRuntime) -> Result<(), Fail> {
-    let three_idle = Limits::new(64, 64, 0, 1, 2, 3, 100)?;
-    let five_turns = Limits::new(64, 64, 0, 1, 2, 30, 5)?;
-    assert!(rt; idles(&rt, &three_idle, App::Hello, Never, (3, 3, 3))?);
-    assert!(rt; idles(&rt, &five_turns, App::Hello, Never, (5, 5, 5))?);
-    let pieces = Pieces::new(GET, 1, 1);
-    assert!(rt; idles(&rt, &five_turns, App::Hello, pieces, (5, 0, 0))?);
+    for (place, row) in NOTHING.iter().enumerate() {
+        let is_so = is_silence_over(&rt, row)?;
+        assert!(rt; is_so, "row {place}");
+    }
+    let is_so = is_request_over(&rt, App::Hello, 1, &(30, 5, (5, 0, 0)))?;
+    assert!(rt; is_so, "a byte a turn");
     Ok(())
 }
 
 const WAITS: App = App::Scripted(&[Step::Waits]);
 
+/// The request is read, its event is offered, the end of the input is read, and the disconnect is offered.
+const NO_FURTHER: &[Limit] = &[(3, 100, (7, 3, 3)), (30, 4, (4, 0, 0))];
+
 #[test]
 fn a_task_that_goes_no_further_is_given_up(rt: HostRuntime) -> Result<(), Fail> {
-    let three_idle = Limits::new(64, 64, 0, 1, 2, 3, 100)?;
-    let four_turns = Limits::new(64, 64, 0, 1, 2, 30, 4)?;
-    // The request is read, its event is offered, the end of the input is read, and the disconnect is offered.
-    let whole = Pieces::new(GET, 64, 64);
-    assert!(rt; idles(&rt, &three_idle, WAITS, whole, (7, 3, 3))?);
-    let whole = Pieces::new(GET, 64, 64);
-    assert!(rt; idles(&rt, &four_turns, WAITS, whole, (4, 0, 0))?);
+    for (place, row) in NO_FURTHER.iter().enumerate() {
+        let is_so = is_request_over(&rt, WAITS, 64, row)?;
+        assert!(rt; is_so, "row {place}");
+    }
     Ok(())
 }
 
@@ -131,7 +159,7 @@ const LIMITED: &[Limited] = &[
 
 fn is_limited<H: Host>(rt: &H, row: &Limited) -> Result<bool, Fail> {
     let (input, turns, wanted, outcome, exchanges) = *row;
-    let limits = Limits::new(64, 64, 0, 1, 2, 30, turns)?;
+    let limits = limited(30, turns)?;
     let pieces = Pieces::new(input, 64, 64);
     let end = (outcome, exchanges, 0);
     Ok(is_served_so(rt, Way::Inline, &limits, App::Hello, pieces, wanted, end)?)
@@ -140,7 +168,8 @@ fn is_limited<H: Host>(rt: &H, row: &Limited) -> Result<bool, Fail> {
 #[test]
 fn the_first_of_a_limit_and_what_else_ends_it(rt: HostRuntime) -> Result<(), Fail> {
     for (place, row) in LIMITED.iter().enumerate() {
-        assert!(rt; is_limited(&rt, row)?, "row {place}");
+        let is_so = is_limited(&rt, row)?;
+        assert!(rt; is_so, "row {place}");
     }
     Ok(())
 }

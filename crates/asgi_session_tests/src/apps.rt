@@ -249,8 +249,8 @@ fn goes<E: AppEnd>(alloc: Global, cx: &mut Context<'_>, end: &mut E, step: Step)
 {
     match step {
         Step::Hears(wanted) => hears(cx, end, wanted),
-        Step::Says(said) => says(alloc, cx, end, said),
-        Step::IsRefused(said, number) => is_refused(alloc, cx, end, said, number),
+        Step::Says(said) => says(alloc, cx, end, said, None),
+        Step::IsRefused(said, number) => says(alloc, cx, end, said, Some(number)),
         _ => Poll::Ready(false),
     }
 }
@@ -268,31 +268,13 @@ fn hears<E: AppEnd>(cx: &mut Context<'_>, end: &mut E, wanted: Heard) -> Poll<bo
     }
 }
 
-/// Whether this goes into the queue; pending until a place is free.
-fn says<E: AppEnd>(alloc: Global, cx: &mut Context<'_>, end: &mut E, said: Said) -> Poll<bool>
-    requires { E.ended end.old ≡ None }
-    ensures end { GoesOn E.AppEnd None end.old end.new }
-    ensures armed { OnPending result (IsArmed cx.new) }
-    ensures kept { Keeps cx.old cx.new }
-{
-    let Ok(event) = said.event(alloc) else {
-        return Poll::Ready(false);
-    };
-    match end.poll_send(cx, event) {
-        Sent::Done => Poll::Ready(true),
-        Sent::Full(_) => Poll::Pending,
-        Sent::Ignored => Poll::Ready(false),
-        Sent::Refused(_, _) => Poll::Ready(false),
-    }
-}
-
-/// Whether this is refused by this number; never pending.
-fn is_refused<E: AppEnd>(
+/// Whether this goes into the queue, or is refused by the number if there is one; pending until a place is free.
+fn says<E: AppEnd>(
     alloc: Global,
     cx: &mut Context<'_>,
     end: &mut E,
     said: Said,
-    number: u8,
+    number: Option<u8>,
 ) -> Poll<bool>
     requires { E.ended end.old ≡ None }
     ensures end { GoesOn E.AppEnd None end.old end.new }
@@ -303,10 +285,18 @@ fn is_refused<E: AppEnd>(
         return Poll::Ready(false);
     };
     match end.poll_send(cx, event) {
-        Sent::Refused(given, _) => Poll::Ready(given == number),
-        Sent::Done => Poll::Ready(false),
-        Sent::Full(_) => Poll::Ready(false),
+        Sent::Done => Poll::Ready(number.is_none()),
+        Sent::Full(_) => waits(number),
+        Sent::Refused(given, _) => Poll::Ready(number == Some(given)),
         Sent::Ignored => Poll::Ready(false),
+    }
+}
+
+/// What is to be refused waits for no place.
+fn waits(number: Option<u8>) -> Poll<bool> {
+    match number {
+        Some(_) => Poll::Ready(false),
+        None => Poll::Pending,
     }
 }
 

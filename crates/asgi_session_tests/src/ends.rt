@@ -2,10 +2,10 @@
 use crate::apps::{Heard, Said, Step};
 use crate::rows::{BOTH, Parts};
 use crate::scripts::{Given, Out, is_handed, is_text, script_of};
-use crate::serving::{App, serve_by};
+use crate::serving::{App, serve_script};
 use crate::texts::{ACCEPTED, DENIED, FORBIDDEN, HANDSHAKE, HELLO, LAST_CHUNK, SERVER_ERROR};
 use asgi_conn::{Host, Outcome};
-use asgi_fakes::Way;
+use asgi_fakes::{End, Way};
 use asgi_types::{BadLimit, Limits};
 use asgi_ws::Script;
 use std::io;
@@ -14,6 +14,12 @@ use std::test::Fail;
 
 /// The application, the messages, what is sent, and the outcome and the faults.
 type Row = (App, &'static [Given], &'static [Out], (Outcome, u64));
+
+/// The outcome, one exchange, and the faults.
+fn end_of_row(row: &Row) -> End {
+    let (outcome, faults) = row.3;
+    (outcome, 1, faults)
+}
 
 /// Serves a handshake that is accepted, with one exchange, and returns how many messages were read if all is as the row
 /// has it.
@@ -24,9 +30,9 @@ fn read_over<H: Host>(
     row: &Row,
     line: &mut Script,
 ) -> io::Result<Option<usize>> {
-    let (report, _) = serve_by(rt, way, limits, row.0, line)?;
-    let ended = (report.outcome, report.faults) == row.3 && report.exchanges == 1;
-    if ended && is_handed(line, row.2) && line.text() == ACCEPTED {
+    let (end, _) = serve_script(rt, way, limits, row.0, line)?;
+    let is_so = is_handed(line, row.2) && line.text() == ACCEPTED;
+    if (end, is_so) == (end_of_row(row), true) {
         return Ok(Some(line.received().len()));
     }
     Ok(None)
@@ -81,10 +87,10 @@ fn is_line_crossed<H: Host>(
     crossed: Crossed,
     line: &mut Script,
 ) -> io::Result<bool> {
-    let (report, _) = serve_by(rt, Way::Beside, &Limits::usual(), row.0, line)?;
-    let is_so = (report.outcome, report.faults) == row.3 && is_handed(line, row.2);
-    let is_one = report.exchanges == 1 && line.text() == ACCEPTED;
-    Ok(is_one && (is_so || is_among(line, report.outcome, crossed)))
+    let (end, _) = serve_script(rt, Way::Beside, &Limits::usual(), row.0, line)?;
+    let is_so = (end, is_handed(line, row.2)) == (end_of_row(row), true);
+    let is_one = end.1 == 1 && line.text() == ACCEPTED;
+    Ok(is_one && (is_so || is_among(line, end.0, crossed)))
 }
 
 /// Each row, in one thread exactly as it is, and in two as it is or in one of the crossed ways.
@@ -182,8 +188,8 @@ fn messages_are_heard_and_handed_over(rt: HostRuntime) -> Result<(), Fail> {
 
 /// Whether the message is echoed, and the line was given the bytes after the handshake.
 fn is_handed_on<H: Host>(rt: &H, way: Way, line: &mut Script) -> io::Result<bool> {
-    let (report, _) = serve_by(rt, way, &Limits::usual(), App::WsEcho, line)?;
-    let is_so = is_handed(line, &[Out::Text("a")]) && report.outcome == Outcome::InputBroke;
+    let (end, _) = serve_script(rt, way, &Limits::usual(), App::WsEcho, line)?;
+    let is_so = is_handed(line, &[Out::Text("a")]) && end.0 == Outcome::InputBroke;
     Ok(is_so && line.leftover() == Some(HELLO))
 }
 
@@ -234,10 +240,11 @@ const ANSWERS: &[Answer] = &[
 
 /// Whether the text of the response is written, and nothing else is done.
 fn is_answered<H: Host>(rt: &H, way: Way, row: &Answer, line: &mut Script) -> io::Result<bool> {
-    let (report, _) = serve_by(rt, way, &Limits::usual(), row.0, line)?;
-    let ended = (report.outcome, report.faults) == row.2 && report.exchanges == 1;
+    let (end, _) = serve_script(rt, way, &Limits::usual(), row.0, line)?;
+    let (outcome, faults) = row.2;
     let is_silent = line.leftover().is_none() && line.received().is_empty();
-    Ok(ended && is_silent && is_handed(line, &[]) && is_text(line, row.1))
+    let is_so = is_silent && is_handed(line, &[]) && is_text(line, row.1);
+    Ok((end, is_so) == ((outcome, 1, faults), true))
 }
 
 fn answers<H: Host>(rt: &H, way: Way, row: &Answer) -> io::Result<bool> {
@@ -465,7 +472,7 @@ const CLOSING: &[Row] = &[
 fn of_100_pings_after_a_close_64_are_read(rt: HostRuntime) -> Result<(), Fail> {
     for (place, row) in CLOSING.iter().enumerate() {
         let read = reads(&rt, Way::Inline, &Limits::usual(), row)?;
-        assert_eq!(rt; read, Some(64), "row {place}");
+        assert!(rt; read == Some(64), "row {place}");
     }
     Ok(())
 }
@@ -517,7 +524,7 @@ fn a_message_waits_for_a_place(rt: HostRuntime) -> Result<(), Fail> {
     let limits = Limits::new(16_384, 64, 0, 1, 2, 30_000, 1_000_000)?;
     for (place, (row, wanted)) in CROWDED.iter().enumerate() {
         let read = reads(&rt, Way::Inline, &limits, row)?;
-        assert_eq!(rt; read, Some(*wanted), "row {place}");
+        assert!(rt; read == Some(*wanted), "row {place}");
     }
     Ok(())
 }
@@ -535,7 +542,7 @@ fn a_session_over_1024_places_is_echoed(rt: HostRuntime) -> Result<(), Fail> {
     let limits = Limits::new(16_384, 64, 0, 1, 1_024, 30_000, 1_000_000)?;
     for way in BOTH {
         let read = reads(&rt, *way, &limits, &CROWD)?;
-        assert_eq!(rt; read, Some(1_100));
+        assert!(rt; read == Some(1_100));
     }
     Ok(())
 }
@@ -598,10 +605,9 @@ fn is_given_up<H: Host>(
     row: &Waiting,
     line: &mut Script,
 ) -> io::Result<bool> {
-    let (report, _) = serve_by(rt, Way::Inline, limits, row.0.0, line)?;
-    let counts = (report.exchanges, report.faults, report.idle);
-    let ended = report.outcome == Outcome::Idle && counts == (1, 0, 3);
-    Ok(ended && is_handed(line, row.0.2) && is_text(line, row.1))
+    let ended = serve_script(rt, Way::Inline, limits, row.0.0, line)?;
+    let is_so = is_handed(line, row.0.2) && is_text(line, row.1);
+    Ok((ended, is_so) == (((Outcome::Idle, 1, 0), 3), true))
 }
 
 fn gives_up<H: Host>(rt: &H, limits: &Limits, row: &Waiting) -> io::Result<bool> {

@@ -328,7 +328,12 @@ fn fails_at<H: Host>(rt: &H, row: &Head) -> io::Result<Option<usize>> {
 fn a_message_of_each_length_is_echoed(rt: HostRuntime) -> Result<(), Fail> {
     for row in LONG {
         let piece = fails_at(&rt, row)?;
-        assert_eq!(rt; piece, None, "{} bytes", row.0);
+        assert!(rt;
+            piece.is_none(),
+            "{} bytes, pieces of {}",
+            row.0,
+            piece.unwrap_or(0)
+        );
     }
     Ok(())
 }

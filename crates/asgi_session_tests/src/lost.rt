@@ -2,10 +2,10 @@
 use crate::apps::{Heard, Said, Step};
 use crate::rows::BOTH;
 use crate::scripts::{Given, Out, is_handed, one_piece, turns_of};
-use crate::serving::{App, serve_by};
+use crate::serving::{App, serve_script};
 use crate::texts::{ACCEPTED, HANDSHAKE};
-use asgi_conn::{Host, Outcome, Report};
-use asgi_fakes::Way;
+use asgi_conn::{Host, Outcome};
+use asgi_fakes::{End, Way};
 use asgi_io::{Counts, Reads};
 use asgi_types::Limits;
 use asgi_ws::{Script, ScriptBytes};
@@ -111,14 +111,15 @@ const ROWS: &[Row] = &[
 
 /// Whether the session ends by a failed write, and no message is read after it. If the task has a thread of its own,
 /// messages may be read before the one that fails is sent, and the task may find the client gone.
-fn is_report(way: Way, row: &Row, report: &Report, received: usize) -> bool {
-    let ended = (report.outcome, report.exchanges) == (Outcome::WriteFailed(0), 1);
-    ended && (way == Way::Beside || (received, report.faults) == (row.3, row.4))
+fn is_end(way: Way, row: &Row, end: End, received: usize) -> bool {
+    let (outcome, exchanges, faults) = end;
+    let ended = (outcome, exchanges) == (Outcome::WriteFailed(0), 1);
+    ended && (way == Way::Beside || (received, faults) == (row.3, row.4))
 }
 
 fn is_lost_over<H: Host>(rt: &H, way: Way, row: &Row, line: &mut Script) -> io::Result<bool> {
-    let (report, _) = serve_by(rt, way, &Limits::usual(), row.0, line)?;
-    let is_so = is_report(way, row, &report, line.received().len());
+    let (end, _) = serve_script(rt, way, &Limits::usual(), row.0, line)?;
+    let is_so = is_end(way, row, end, line.received().len());
     Ok(is_so && has_failed_once(line) && is_handed(line, row.2) && line.text() == ACCEPTED)
 }
 
@@ -151,8 +152,8 @@ const ACCEPT_WRITES: &[Accept] = &[
 ];
 
 fn is_cut_off<H: Host>(rt: &H, way: Way, row: &Accept, line: &mut Script) -> io::Result<bool> {
-    let (report, _) = serve_by(rt, way, &Limits::usual(), App::WsEcho, line)?;
-    let ended = (report.outcome, report.exchanges) == (Outcome::WriteFailed(row.2), 1);
+    let (end, _) = serve_script(rt, way, &Limits::usual(), App::WsEcho, line)?;
+    let ended = (end.0, end.1) == (Outcome::WriteFailed(row.2), 1);
     let is_silent = line.leftover().is_none() && line.received().is_empty();
     let is_once = has_failed_once(line) && is_handed(line, &[]);
     Ok(ended && is_silent && is_once && Some(line.text()) == ACCEPTED.get(..row.2))

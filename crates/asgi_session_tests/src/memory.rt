@@ -2,17 +2,16 @@
 //! refused.
 use crate::rows::{BOTH, Parts, after, joined};
 use crate::scripts::{Given, Out, is_front, is_handed, script_of};
-use crate::serving::{App, serve_by};
+use crate::serving::{App, serve_pieces, serve_script};
 use crate::texts::{ACCEPTED, FORBIDDEN, HANDSHAKE, HELLO, HELLO_BACK, OFFERING, SERVER_ERROR};
-use asgi_conn::{Host, Outcome, Report};
-use asgi_fakes::{Memory, Pieces, Way, line_of, text_of};
+use asgi_conn::{Host, Outcome};
+use asgi_fakes::{End, Memory, Pieces, Way, line_of, text_of};
 use asgi_types::Limits;
 use asgi_ws::Script;
 use std::io;
-use std::test::Fail;
 
 /// What came of a session.
-#[derive(Clone, Copy, Debug, PartialEq, Eq)]
+#[derive(Clone, Copy, PartialEq, Eq)]
 enum Came {
     /// The session was served as the row has it.
     Whole,
@@ -63,10 +62,6 @@ fn is_cut_off(written: &[u8], wanted: Parts, outcome: Outcome) -> bool {
     }
 }
 
-fn is_one_exchange(report: &Report) -> bool {
-    (report.exchanges, report.faults) == (1, 0)
-}
-
 /// The application, the input, what is written, and the outcome.
 type Row = (App, Parts, Parts, Outcome);
 
@@ -80,16 +75,18 @@ const ROWS: &[Row] = &[
     (App::Hello, &[OFFERING], &[FORBIDDEN], Outcome::Finished),
 ];
 
-fn wired_came(row: &Row, written: &[u8], report: &Report) -> Came {
-    if report.outcome != row.3 {
-        return Came::cut_off_if(is_cut_off(written, row.2, report.outcome));
+// The outcomes are compared as parts of pairs: a proof of `!=` alone goes through the variants of both.
+fn wired_came(row: &Row, written: &[u8], end: End) -> Came {
+    let (outcome, exchanges, faults) = end;
+    if (outcome, 0) != (row.3, 0) {
+        return Came::cut_off_if(is_cut_off(written, row.2, outcome));
     }
-    Came::whole_if(is_one_exchange(report) && after(written, row.2) == Some(b""))
+    Came::whole_if((exchanges, faults) == (1, 0) && after(written, row.2) == Some(b""))
 }
 
 fn serve_over<H: Host>(rt: &H, way: Way, row: &Row, line: &mut Memory<Pieces>) -> io::Result<Came> {
-    let (report, _) = serve_by(rt, way, &Limits::usual(), row.0, line)?;
-    Ok(wired_came(row, text_of(line), &report))
+    let end = serve_pieces(rt, way, row.0, line)?;
+    Ok(wired_came(row, text_of(line), end))
 }
 
 /// Serves a session over a stream, whose input comes in two pieces.
@@ -99,54 +96,57 @@ fn serve_wired<H: Host>(rt: &H, way: Way, row: &Row) -> io::Result<Came> {
     serve_over(rt, way, row, &mut line)
 }
 
-/// What came of it, once more if memory was refused.
-fn came_of<H: Host>(rt: &H, way: Way, row: &Row) -> Came {
-    let first = what_came(serve_wired(rt, way, row));
-    if first == Came::CutOff {
-        return what_came(serve_wired(rt, way, row));
+/// Whether it is served as the row has it, once more if memory was refused.
+fn is_whole<H: Host>(rt: &H, way: Way, row: &Row) -> bool {
+    let mut last = what_came(serve_wired(rt, way, row));
+    if last == Came::CutOff {
+        last = what_came(serve_wired(rt, way, row));
     }
-    first
+    last == Came::Whole
 }
 
 /// Only one allocation is refused, in whichever thread, so of two sessions one is served.
 #[test]
-fn memory_for_a_session_over_a_stream(rt: HostRuntime) -> Result<(), Fail> {
+fn memory_for_a_session_over_a_stream(rt: HostRuntime) {
     for way in BOTH {
         for (place, row) in ROWS.iter().enumerate() {
-            assert_eq!(rt; came_of(&rt, *way, row), Came::Whole, "row {place}");
+            assert!(rt; is_whole(&rt, *way, row), "row {place}");
         }
     }
-    Ok(())
 }
 
 const ECHO: &[Out] = &[Out::Text("Hello")];
 
-fn scripted_came(line: &Script, report: &Report) -> Came {
-    if report.outcome != Outcome::InputBroke {
-        let is_text = is_cut_off(line.text(), &[ACCEPTED], report.outcome);
+fn scripted_came(line: &Script, end: End) -> Came {
+    let (outcome, exchanges, faults) = end;
+    if outcome != Outcome::InputBroke {
+        let is_text = is_cut_off(line.text(), &[ACCEPTED], outcome);
         return Came::cut_off_if(is_text && is_front(line, ECHO));
     }
     let is_so = line.text() == ACCEPTED && is_handed(line, ECHO);
-    Came::whole_if(is_so && is_one_exchange(report))
+    Came::whole_if(is_so && (exchanges, faults) == (1, 0))
 }
 
 fn serve_over_script<H: Host>(rt: &H, line: &mut Script) -> io::Result<Came> {
-    let (report, _) = serve_by(rt, Way::Inline, &Limits::usual(), App::WsEcho, line)?;
-    Ok(scripted_came(line, &report))
+    let (end, _) = serve_script(rt, Way::Inline, &Limits::usual(), App::WsEcho, line)?;
+    Ok(scripted_came(line, end))
 }
 
 /// The same over a line in memory.
-fn serve_script<H: Host>(rt: &H) -> io::Result<Came> {
+fn serve_in_memory<H: Host>(rt: &H) -> io::Result<Came> {
     let mut line = script_of(rt.alloc(), &[HANDSHAKE], &[Given::Text("Hello")])?;
     serve_over_script(rt, &mut line)
 }
 
-#[test]
-fn memory_for_a_session_in_memory(rt: HostRuntime) -> Result<(), Fail> {
-    let mut last = what_came(serve_script(&rt));
+fn is_script_whole<H: Host>(rt: &H) -> bool {
+    let mut last = what_came(serve_in_memory(rt));
     if last == Came::CutOff {
-        last = what_came(serve_script(&rt));
+        last = what_came(serve_in_memory(rt));
     }
-    assert_eq!(rt; last, Came::Whole);
-    Ok(())
+    last == Came::Whole
+}
+
+#[test]
+fn memory_for_a_session_in_memory(rt: HostRuntime) {
+    assert!(rt; is_script_whole(&rt));
 }

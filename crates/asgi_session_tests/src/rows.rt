@@ -1,10 +1,9 @@
 //! Rows over a stream, and how they are compared, in pieces and cut in two at each place.
 use crate::apps::Heard;
-use crate::serving::{App, serve_by};
+use crate::serving::{App, serve_pieces};
 use crate::texts::{ACCEPTED, HANDSHAKE};
 use asgi_conn::{Host, Outcome};
 use asgi_fakes::{End, Memory, Pieces, Way, line_of, text_of};
-use asgi_types::Limits;
 use std::alloc::{AllocError, Global};
 use std::io::{self, ErrorKind};
 use std::process::Abort;
@@ -97,8 +96,7 @@ fn is_line_served<H: Host>(
     written: Written<'_>,
     end: End,
 ) -> io::Result<bool> {
-    let (report, _) = serve_by(rt, way, &Limits::usual(), app, line)?;
-    let ended = (report.outcome, report.exchanges, report.faults);
+    let ended = serve_pieces(rt, way, app, line)?;
     let is_so = ended == end && is_written(text_of(line), written);
     Ok(is_so || way == Way::Beside && is_crossed(ended, text_of(line), written, end))
 }
@@ -109,7 +107,7 @@ fn is_crossed(ended: End, bytes: &[u8], written: Written<'_>, end: End) -> bool 
     let Written::Around(parts, _) = written else {
         return false;
     };
-    let is_lost = ended.0 == Outcome::WriteFailed(0) && ended.1 == end.1;
+    let is_lost = (ended.0, ended.1) == (Outcome::WriteFailed(0), end.1);
     is_lost && parts.first() == Some(&ACCEPTED) && bytes.starts_with(ACCEPTED)
 }
 
@@ -161,7 +159,11 @@ fn row_fails_at<H: Host>(rt: &H, ways: &[Way], row: &Row) -> io::Result<Option<u
 fn check_so<H: Abort + Host>(rt: &H, ways: &[Way], rows: &[Row]) -> Result<(), Fail> {
     for (place, row) in rows.iter().enumerate() {
         let failed = row_fails_at(rt, ways, row)?;
-        assert_eq!(rt; failed, None, "row {place}");
+        assert!(rt;
+            failed.is_none(),
+            "row {place}, pieces of {}",
+            failed.unwrap_or(0)
+        );
     }
     Ok(())
 }
@@ -187,8 +189,7 @@ fn is_line_crossing<H: Host>(
     crossed: Crossed,
     line: &mut Memory<Pieces>,
 ) -> io::Result<bool> {
-    let (report, _) = serve_by(rt, Way::Beside, &Limits::usual(), row.0, line)?;
-    let ended = (report.outcome, report.exchanges, report.faults);
+    let ended = serve_pieces(rt, Way::Beside, row.0, line)?;
     let written = text_of(line);
     let is_so = ended == row.3 && is_written(written, row.2);
     Ok(is_so || ended.1 == 1 && is_among(written, ended.0, crossed))
@@ -237,7 +238,11 @@ pub fn check_crossing<H: Abort + Host>(
     check_so(rt, ONE, rows)?;
     for (place, (row, crossed)) in rows.iter().zip(crossed).enumerate() {
         let failed = crossing_row_fails_at(rt, row, crossed)?;
-        assert_eq!(rt; failed, None, "row {place}");
+        assert!(rt;
+            failed.is_none(),
+            "row {place}, pieces of {}",
+            failed.unwrap_or(0)
+        );
     }
     Ok(())
 }
@@ -247,13 +252,22 @@ fn session_fails_at<H: Host>(rt: &H, app: App, row: &Session) -> io::Result<Opti
     fails_at(rt, BOTH, app, &input, row.2, (row.3, 1, 0))
 }
 
+/// The first piece size with which the session fails, by an application that receives exactly its events, and by `WsEcho`.
+fn fails_by_either<H: Host>(rt: &H, row: &Session) -> io::Result<(Option<usize>, Option<usize>)> {
+    let heard = session_fails_at(rt, App::Listens(row.1), row)?;
+    Ok((heard, session_fails_at(rt, App::WsEcho, row)?))
+}
+
 /// Each session, in pieces, by an application that receives exactly these events, and by `WsEcho`.
 pub fn check_sessions<H: Abort + Host>(rt: &H, rows: &[Session]) -> Result<(), Fail> {
     for (place, row) in rows.iter().enumerate() {
-        let failed = session_fails_at(rt, App::Listens(row.1), row)?;
-        assert_eq!(rt; failed, None, "row {place}");
-        let failed = session_fails_at(rt, App::WsEcho, row)?;
-        assert_eq!(rt; failed, None, "row {place}, by WsEcho");
+        let (heard, echoed) = fails_by_either(rt, row)?;
+        assert!(rt;
+            heard.is_none() && echoed.is_none(),
+            "row {place}, pieces of {}, by WsEcho {}",
+            heard.unwrap_or(0),
+            echoed.unwrap_or(0)
+        );
     }
     Ok(())
 }
@@ -291,7 +305,7 @@ pub fn check_halves<H: Abort + Host>(
 ) -> Result<(), Fail> {
     for (place, row) in rows.iter().enumerate() {
         let cut = wrong_cut_of(rt, row, before)?;
-        assert_eq!(rt; cut, None, "row {place}");
+        assert!(rt; cut.is_none(), "row {place}, cut at {}", cut.unwrap_or(0));
     }
     Ok(())
 }

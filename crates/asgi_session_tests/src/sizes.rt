@@ -1,7 +1,7 @@
 //! Long messages over a line in memory: with ample memory each is received and sent whole.
 use crate::rows::BOTH;
 use crate::scripts::one_piece;
-use crate::serving::{App, serve_by};
+use crate::serving::{App, serve_script};
 use crate::texts::{ACCEPTED, HANDSHAKE};
 use asgi_conn::{Host, Outcome};
 use asgi_fakes::Way;
@@ -83,9 +83,8 @@ fn are_sent_back(items: &[SentMessage]) -> bool {
 }
 
 fn is_echoed_over<H: Host>(rt: &H, way: Way, line: &mut Script) -> io::Result<bool> {
-    let (report, _) = serve_by(rt, way, &Limits::usual(), App::WsEcho, line)?;
-    let ended = (report.outcome, report.exchanges, report.faults);
-    let is_so = ended == (Outcome::InputBroke, 1, 0) && line.text() == ACCEPTED;
+    let (end, _) = serve_script(rt, way, &Limits::usual(), App::WsEcho, line)?;
+    let is_so = end == (Outcome::InputBroke, 1, 0) && line.text() == ACCEPTED;
     Ok(is_so && line.received().len() == 2 && are_sent_back(line.handed()))
 }
 
