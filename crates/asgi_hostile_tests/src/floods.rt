@@ -151,7 +151,7 @@ fn is_line_written<H: Host>(
     wanted: &[u8],
 ) -> io::Result<bool> {
     let (report, _) = serve(rt, way, &Limits::usual(), floods, line)?;
-    Ok(report.outcome == Outcome::Finished && text_of(line) == wanted)
+    Ok(matches!(report.outcome, Outcome::Finished) && text_of(line) == wanted)
 }
 
 /// Whether that is so in either way.
@@ -163,12 +163,14 @@ fn are_written<H: Host>(rt: &H, floods: &Floods) -> io::Result<bool> {
 
 #[test]
 fn ten_thousand_events_are_written(rt: HostRuntime) -> Result<(), Fail> {
-    assert!(rt; are_written(&rt, &MANY)?);
+    let is_so = are_written(&rt, &MANY)?;
+    assert!(rt; is_so);
     Ok(())
 }
 
 #[test]
 fn an_event_of_64_mib_is_written(rt: HostRuntime) -> Result<(), Fail> {
-    assert!(rt; are_written(&rt, &GREAT)?);
+    let is_so = are_written(&rt, &GREAT)?;
+    assert!(rt; is_so);
     Ok(())
 }
