@@ -5,7 +5,7 @@ ghost use Rattle.asgi_apps.specs.Ends.{GoesOn};
 
 use crate::serving::is_answered;
 use asgi_apps::{AppFault, AppTask, Application};
-use asgi_conn::{Host, Outcome, Report};
+use asgi_conn::{Host, Outcome};
 use asgi_fakes::texts::{HELLO, SERVER_ERROR};
 use asgi_fakes::{
     Memory, Pieces, Said, Scripted, ScriptedTask, Step, Way, line_of, serve, text_of,
@@ -123,42 +123,54 @@ fn requests(alloc: Global, times: usize) -> Result<Vec<u8>, AllocError> {
 
 /// Whether this many requests on one connection are answered beside a thread.
 fn are_answered<H: Host + Clock + Drop>(rt: &H, limits: &Limits, times: usize) -> io::Result<bool> {
-    let input = requests(rt.alloc(), times)?;
     let app = Asks {
         clock: *rt,
         tries: 5_000,
     };
-    let mut line = line_of(rt, Pieces::new(&input, 4_096, 4_096))?;
     let end = (Outcome::Finished, times as u64, 0, 0);
+    let input = requests(rt.alloc(), times)?;
+    let mut line = line_of(rt, Pieces::new(&input, 4_096, 4_096))?;
     is_answered(rt, limits, &app, &mut line, (HELLO, times, end))
 }
+
+const TIMES: &[usize] = &[1, 100];
 
 #[test]
 fn a_task_and_its_connection_go_on_at_once(rt: HostRuntime) -> Result<(), Fail> {
     let limits = narrow()?;
-    assert!(rt; are_answered(&rt, &limits, 1)?);
-    assert!(rt; are_answered(&rt, &limits, 100)?);
+    for times in TIMES {
+        let is_so = are_answered(&rt, &limits, *times)?;
+        assert!(rt; is_so, "{times} requests");
+    }
     Ok(())
 }
 
 /// Whether the connection has a refusal, since its task faulted.
-fn is_refused(report: &Report, line: &Memory<Pieces>) -> bool {
-    let ended = (report.outcome, report.exchanges, report.faults);
-    ended == (Outcome::Refused(500), 1, 1) && text_of(line) == SERVER_ERROR
+fn is_refused<H: Host, T: AppTask + Send + 'static, A: Application<Task = T>>(
+    rt: &H,
+    limits: &Limits,
+    app: &A,
+    line: &mut Memory<Pieces>,
+) -> io::Result<bool> {
+    let (report, _) = serve(rt, Way::Inline, limits, app, line)?;
+    let counts = (report.exchanges, report.faults);
+    let is_so = matches!(report.outcome, Outcome::Refused(500)) && counts == (1, 1);
+    Ok(is_so && text_of(line) == SERVER_ERROR)
 }
 
-fn waits_in_vain<H: Host + Clock + Drop>(rt: &H, limits: &Limits) -> io::Result<bool> {
+fn waits_in_vain<H: Host + Clock + Drop>(rt: &H) -> Result<bool, Fail> {
+    let limits = narrow()?;
     let app = Asks {
         clock: *rt,
         tries: 500,
     };
     let mut line = line_of(rt, Pieces::new(REQUEST, 4_096, 4_096))?;
-    let (report, _) = serve(rt, Way::Inline, limits, &app, &mut line)?;
-    Ok(is_refused(&report, &line))
+    Ok(is_refused(rt, &limits, &app, &mut line)?)
 }
 
 #[test]
 fn in_one_thread_the_task_waits_in_vain(rt: HostRuntime) -> Result<(), Fail> {
-    assert!(rt; waits_in_vain(&rt, &narrow()?)?);
+    let is_so = waits_in_vain(&rt)?;
+    assert!(rt; is_so);
     Ok(())
 }

@@ -17,7 +17,7 @@ use std::thread;
 const PATIENCE: u32 = 200;
 
 /// In which order the halves make their calls.
-#[derive(Clone, Copy, Debug)]
+#[derive(Clone, Copy)]
 pub enum Order {
     /// This many of the connection's, and then this many of the application's.
     Turns(u64),

@@ -3,7 +3,7 @@ ghost use Rattle.std.specs.Prelude.{◌≤◌, length};
 
 use asgi_apps::{AppTask, Application, Echo, WsEcho};
 use asgi_conn::{Host, Outcome};
-use asgi_fakes::{Way, line_of, serve};
+use asgi_fakes::{Memory, Way, line_of, serve};
 use asgi_types::{BadLimit, Limits};
 use std::io::{self, Read};
 use std::test::Fail;
@@ -57,14 +57,24 @@ fn few() -> Result<Limits, BadLimit> {
     Limits::new(16_384, 64, 1_048_576, 16_384, 16, 100, 10_000_000)
 }
 
-/// The outcome of a connection whose task waits for an event that does not come, and whether it came after the idle
-/// turns, and not only once all turns were taken.
-fn given_up<H: Host + Clock + Drop, T: AppTask + Send + 'static, A: Application<Task = T>>(
+fn is_given_up_over<H: Host, R: Read + Drop, T: AppTask + Send + 'static, A: Application<Task = T>>(
     rt: &H,
     limits: &Limits,
     app: &A,
+    line: &mut Memory<R>,
+) -> io::Result<bool> {
+    let (report, _) = serve(rt, Way::Beside, limits, app, line)?;
+    Ok(matches!(report.outcome, Outcome::Idle) && report.turns < 1_000_000)
+}
+
+/// Whether a connection is given up whose task waits for an event that does not come, and that after the idle turns, and
+/// not only once all turns were taken.
+fn is_given_up<H: Host + Clock + Drop, T: AppTask + Send + 'static, A: Application<Task = T>>(
+    rt: &H,
+    app: &A,
     texts: (&'static [u8], &'static [u8]),
-) -> io::Result<(Outcome, bool)> {
+) -> Result<bool, Fail> {
+    let limits = few()?;
     let trickle = Trickle {
         clock: *rt,
         first: texts.0,
@@ -72,17 +82,13 @@ fn given_up<H: Host + Clock + Drop, T: AppTask + Send + 'static, A: Application<
         has_begun: false,
     };
     let mut line = line_of(rt, trickle)?;
-    let (report, _) = serve(rt, Way::Beside, limits, app, &mut line)?;
-    Ok((report.outcome, report.turns < 1_000_000))
+    Ok(is_given_up_over(rt, &limits, app, &mut line)?)
 }
 
 #[test]
 fn a_task_that_is_given_up_takes_its_connection_with_it(rt: HostRuntime) -> Result<(), Fail> {
-    let limits = few()?;
-    assert_eq!(rt; given_up(&rt, &limits, &Echo, BODY)?, (Outcome::Idle, true));
-    assert_eq!(rt;
-        given_up(&rt, &limits, &WsEcho, PINGS)?,
-        (Outcome::Idle, true)
-    );
+    let of_a_body = is_given_up(&rt, &Echo, BODY)?;
+    let of_pings = is_given_up(&rt, &WsEcho, PINGS)?;
+    assert!(rt; (of_a_body, of_pings) == (true, true));
     Ok(())
 }

@@ -129,26 +129,38 @@ impl Write for Takes {
 
 const CLOSES: &[u8] = b"GET / HTTP/1.1\r\nHost: a\r\nConnection: close\r\n\r\n";
 
-/// How the connection ends, and how many writes it made.
-fn outcome<H: Host + Clock + Drop>(rt: &H) -> io::Result<(Outcome, u64)> {
-    let writes = Writes(Arc::new(rt.alloc(), AtomicU64::new(0))?);
+type TakingLine = Wired<Pair<Silent, Takes>>;
+
+/// Whether the connection is finished, and made ten writes or more.
+fn is_finished<H: Host + Clock + Drop>(
+    rt: &H,
+    app: &Ticks<H>,
+    line: &mut TakingLine,
+) -> io::Result<bool> {
+    let end = serve(rt, &Limits::usual(), app, line, true)?;
+    let writes = app.writes.0.load(Ordering::SeqCst);
+    Ok(matches!(end.0, Outcome::Finished) && writes >= 10)
+}
+
+/// A line whose writes are counted there.
+fn line_to<H: Host>(rt: &H, writes: &Writes) -> Result<TakingLine, AllocError> {
+    let writes = writes.again()?;
     let reader = Silent { request: CLOSES };
-    let writer = Takes {
-        writes: writes.again()?,
-    };
-    let app = Ticks {
-        clock: *rt,
-        writes: writes.again()?,
-    };
-    let mut line = Wired::new(rt.alloc(), Pair { reader, writer });
-    let end = serve(rt, &Limits::usual(), &app, &mut line, true)?;
-    Ok((end.0, writes.0.load(Ordering::SeqCst)))
+    let writer = Takes { writes };
+    Ok(Wired::new(rt.alloc(), Pair { reader, writer }))
+}
+
+fn leaves<H: Host + Clock + Drop>(rt: &H) -> io::Result<bool> {
+    let writes = Writes(Arc::new(rt.alloc(), AtomicU64::new(0))?);
+    let clock = *rt;
+    let app = Ticks { clock, writes };
+    let mut line = line_to(rt, &app.writes)?;
+    is_finished(rt, &app, &mut line)
 }
 
 #[test]
 fn each_part_leaves_before_the_next_is_said(rt: HostRuntime) -> Result<(), Fail> {
-    let (outcome, writes) = outcome(&rt)?;
-    assert_eq!(rt; outcome, Outcome::Finished);
-    assert!(rt; writes >= 10);
+    let is_so = leaves(&rt)?;
+    assert!(rt; is_so);
     Ok(())
 }

@@ -1,13 +1,12 @@
 //! Memory refused to a connection whose tasks have a thread of their own, in either thread, and for the thread itself.
 //! `tests/memory.py` runs this with each allocation refused in turn; with ample memory none is refused.
-use crate::serving::{End, is_repeated, serve};
-use asgi_apps::{Echo, Hello};
+use crate::serving::{End, is_repeated, serve_pieces};
+use asgi_apps::{AppTask, Application, Echo, Hello};
 use asgi_conn::{Host, Outcome};
 use asgi_fakes::texts::{ECHO_HEAD, GET, GET_TAKING_TRAILERS, HELLO, PLAIN_HEAD, SERVER_ERROR};
 use asgi_fakes::{Memory, Pieces, Said, Sends, line_of, text_of};
 use asgi_types::Limits;
 use std::io;
-use std::test::Fail;
 
 const POST: &[u8] = b"POST / HTTP/1.1\r\nHost: a\r\nContent-Length: 2\r\n\r\nab";
 
@@ -35,7 +34,7 @@ const TRAILED: Row = (
 );
 
 /// What came of a connection.
-#[derive(Clone, Copy, Debug, PartialEq, Eq)]
+#[derive(Clone, Copy, PartialEq, Eq)]
 enum Came {
     /// The connection was served as the row has it.
     Whole,
@@ -83,26 +82,24 @@ fn how_it_came(end: End, bytes: &[u8], row: &Row) -> Came {
     Came::Otherwise
 }
 
-fn line<H: Host>(rt: &H, row: &Row) -> io::Result<Memory<Pieces<'static>>> {
-    Ok(line_of(rt, Pieces::new(row.0, 9, 4_096))?)
+fn came_over<H: Host, T: AppTask + Send + 'static, A: Application<Task = T>>(
+    rt: &H,
+    app: &A,
+    line: &mut Memory<Pieces>,
+    row: &Row,
+) -> io::Result<Came> {
+    let end = serve_pieces(rt, &Limits::usual(), app, line, true)?;
+    Ok(how_it_came(end, text_of(line), row))
 }
 
-fn greet<H: Host>(rt: &H, row: &Row) -> io::Result<Came> {
-    let mut line = line(rt, row)?;
-    let end = serve(rt, &Limits::usual(), &Hello, &mut line, true)?;
-    Ok(how_it_came(end, text_of(&line), row))
-}
-
-fn echo<H: Host>(rt: &H, row: &Row) -> io::Result<Came> {
-    let mut line = line(rt, row)?;
-    let end = serve(rt, &Limits::usual(), &Echo, &mut line, true)?;
-    Ok(how_it_came(end, text_of(&line), row))
-}
-
-fn trail<H: Host>(rt: &H, row: &Row) -> io::Result<Came> {
-    let mut line = line(rt, row)?;
-    let end = serve(rt, &Limits::usual(), &TRAILS, &mut line, true)?;
-    Ok(how_it_came(end, text_of(&line), row))
+/// Serves the row by this application.
+fn serve_row<H: Host, T: AppTask + Send + 'static, A: Application<Task = T>>(
+    rt: &H,
+    app: &A,
+    row: &Row,
+) -> io::Result<Came> {
+    let mut line = line_of(rt, Pieces::new(row.0, 9, 4_096))?;
+    came_over(rt, app, &mut line, row)
 }
 
 /// What came of a connection that may not even have begun.
@@ -113,33 +110,31 @@ fn what_came(served: io::Result<Came>) -> Came {
     }
 }
 
+/// Whether it is served as the row has it, once more if memory was refused.
+fn is_whole<H: Host, T: AppTask + Send + 'static, A: Application<Task = T>>(
+    rt: &H,
+    app: &A,
+    row: &Row,
+) -> bool {
+    let mut last = what_came(serve_row(rt, app, row));
+    if last == Came::CutOff {
+        last = what_came(serve_row(rt, app, row));
+    }
+    last == Came::Whole
+}
+
 /// Only one allocation is refused, so of two connections one is served.
 #[test]
-fn memory_for_a_greeting_beside_a_thread(rt: HostRuntime) -> Result<(), Fail> {
-    let mut last = what_came(greet(&rt, &GREETED));
-    if last == Came::CutOff {
-        last = what_came(greet(&rt, &GREETED));
-    }
-    assert_eq!(rt; last, Came::Whole);
-    Ok(())
+fn memory_for_a_greeting_beside_a_thread(rt: HostRuntime) {
+    assert!(rt; is_whole(&rt, &Hello, &GREETED));
 }
 
 #[test]
-fn memory_for_an_echo_beside_a_thread(rt: HostRuntime) -> Result<(), Fail> {
-    let mut last = what_came(echo(&rt, &ECHOED));
-    if last == Came::CutOff {
-        last = what_came(echo(&rt, &ECHOED));
-    }
-    assert_eq!(rt; last, Came::Whole);
-    Ok(())
+fn memory_for_an_echo_beside_a_thread(rt: HostRuntime) {
+    assert!(rt; is_whole(&rt, &Echo, &ECHOED));
 }
 
 #[test]
-fn memory_for_trailers_beside_a_thread(rt: HostRuntime) -> Result<(), Fail> {
-    let mut last = what_came(trail(&rt, &TRAILED));
-    if last == Came::CutOff {
-        last = what_came(trail(&rt, &TRAILED));
-    }
-    assert_eq!(rt; last, Came::Whole);
-    Ok(())
+fn memory_for_trailers_beside_a_thread(rt: HostRuntime) {
+    assert!(rt; is_whole(&rt, &TRAILS, &TRAILED));
 }

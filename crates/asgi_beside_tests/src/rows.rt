@@ -1,5 +1,5 @@
 //! Rows of connections, each served beside a thread.
-use crate::serving::{End, is_answered, serve};
+use crate::serving::{is_answered, serve_pieces};
 use asgi_apps::{Echo, Hello};
 use asgi_conn::{Host, Outcome};
 use asgi_fakes::texts::{HELLO, TWO_REQUESTS};
@@ -16,22 +16,21 @@ fn is_said_twice<H: Host>(rt: &H) -> io::Result<bool> {
 
 #[test]
 fn hello_is_said_twice(rt: HostRuntime) -> Result<(), Fail> {
-    assert!(rt; is_said_twice(&rt)?);
+    let is_so = is_said_twice(&rt)?;
+    assert!(rt; is_so);
     Ok(())
 }
 
-/// How a connection ends that has no thread, and whether anything was written.
-fn without_a_thread<H: Host>(rt: &H) -> io::Result<(End, bool)> {
+/// Whether a connection that has no thread says so, and nothing is written.
+fn is_without_a_thread<H: Host>(rt: &H) -> io::Result<bool> {
     let mut line = line_of(rt, Pieces::new(TWO_REQUESTS, 4_096, 4_096))?;
-    let end = serve(rt, &Limits::usual(), &Echo, &mut line, false)?;
-    Ok((end, text_of(&line).is_empty()))
+    let end = serve_pieces(rt, &Limits::usual(), &Echo, &mut line, false)?;
+    Ok((end, text_of(&line).is_empty()) == ((Outcome::NoThread, 0, 0, 0), true))
 }
 
 #[test]
 fn no_thread_is_said_where_there_is_none(rt: HostRuntime) -> Result<(), Fail> {
-    assert_eq!(rt;
-        without_a_thread(&rt)?,
-        ((Outcome::NoThread, 0, 0, 0), true)
-    );
+    let is_so = is_without_a_thread(&rt)?;
+    assert!(rt; is_so);
     Ok(())
 }

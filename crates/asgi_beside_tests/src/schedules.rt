@@ -1,12 +1,13 @@
 //! The same bytes, whatever turns the halves of an exchange take.
 use crate::gates::{Gate, Held, HeldReader, HeldWriter, Order};
-use crate::serving::serve;
+use crate::serving::{End, serve};
 use asgi_apps::{AppTask, Application, Echo, Hello, WsEcho};
 use asgi_conn::{Host, Outcome};
 use asgi_fakes::Pieces;
 use asgi_fakes::texts::{ECHO_HEAD, HELLO, LAST_CHUNK, TWO_REQUESTS};
 use asgi_types::{BadLimit, Limits};
 use asgi_ws::{Pair, Wired};
+use std::alloc::{AllocError, Global};
 use std::io;
 use std::test::Fail;
 
@@ -59,6 +60,11 @@ fn are_parts(bytes: &[u8], parts: &[&[u8]]) -> bool {
     rest.is_empty()
 }
 
+// The end of a call: what is known of its parts would be gone through for each variant of the outcome.
+fn end_of(row: &Row) -> End {
+    (row.2, row.3, 0, 0)
+}
+
 /// Whether the line is served as the row holds.
 fn is_served<H: Host, T: AppTask + Send + 'static, A: Application<Task = T>>(
     rt: &H,
@@ -68,14 +74,41 @@ fn is_served<H: Host, T: AppTask + Send + 'static, A: Application<Task = T>>(
     row: &Row,
 ) -> io::Result<bool> {
     let end = serve(rt, limits, app, line, true)?;
-    let is_text = match line.stream() {
-        Some(pair) => are_parts(pair.writer.taken.as_slice(), row.1),
-        None => false,
-    };
-    Ok(end == (row.2, row.3, 0, 0) && is_text)
+    Ok(end == end_of(row) && is_taken(line, row.1))
 }
 
-/// The same in this order of calls, four bytes a read.
+/// Whether the writer of the line took these parts.
+fn is_taken(line: &HeldLine<'_>, parts: &[&[u8]]) -> bool {
+    match line.stream() {
+        Some(pair) => are_parts(pair.writer.taken.as_slice(), parts),
+        None => false,
+    }
+}
+
+fn held_reader(gate: &Gate, input: &'static [u8]) -> Result<HeldReader<'static>, AllocError> {
+    let gate = gate.again()?;
+    let pieces = Pieces::new(input, 4, 4);
+    Ok(HeldReader { gate, pieces })
+}
+
+fn held_writer(alloc: Global, gate: &Gate) -> Result<HeldWriter, AllocError> {
+    let taken = Vec::with_capacity(alloc, 512)?;
+    let gate = gate.again()?;
+    Ok(HeldWriter { gate, taken })
+}
+
+/// A line of this input, four bytes a read.
+fn held_line(
+    alloc: Global,
+    gate: &Gate,
+    input: &'static [u8],
+) -> Result<HeldLine<'static>, AllocError> {
+    let reader = held_reader(gate, input)?;
+    let writer = held_writer(alloc, gate)?;
+    Ok(Wired::new(alloc, Pair { reader, writer }))
+}
+
+/// The same in this order of calls.
 fn is_row<H: Host, T: AppTask + Send + 'static, A: Application<Task = T> + Drop>(
     rt: &H,
     app: A,
@@ -84,15 +117,7 @@ fn is_row<H: Host, T: AppTask + Send + 'static, A: Application<Task = T> + Drop>
     order: Order,
 ) -> io::Result<bool> {
     let gate = Gate::new(rt.alloc(), order)?;
-    let reader = HeldReader {
-        gate: gate.again()?,
-        pieces: Pieces::new(row.0, 4, 4),
-    };
-    let writer = HeldWriter {
-        gate: gate.again()?,
-        taken: Vec::with_capacity(rt.alloc(), 512)?,
-    };
-    let mut line = Wired::new(rt.alloc(), Pair { reader, writer });
+    let mut line = held_line(rt.alloc(), &gate, row.0)?;
     is_served(rt, &Held { gate, app }, &mut line, limits, row)
 }
 
@@ -109,10 +134,8 @@ fn are_rows<H: Host>(rt: &H, limits: &Limits, order: Order) -> io::Result<bool> 
 fn so_many_calls_of_one_half_and_then_of_the_other(rt: HostRuntime) -> Result<(), Fail> {
     let limits = narrow()?;
     for most in 1..=20 {
-        assert!(rt;
-            are_rows(&rt, &limits, Order::Turns(most))?,
-            "{most} at a time"
-        );
+        let is_so = are_rows(&rt, &limits, Order::Turns(most))?;
+        assert!(rt; is_so, "{most} at a time");
     }
     Ok(())
 }
@@ -121,7 +144,8 @@ fn so_many_calls_of_one_half_and_then_of_the_other(rt: HostRuntime) -> Result<()
 fn calls_in_200_orders_by_chance(rt: HostRuntime) -> Result<(), Fail> {
     let limits = narrow()?;
     for seed in 0..200 {
-        assert!(rt; are_rows(&rt, &limits, Order::Chance(seed))?, "seed {seed}");
+        let is_so = are_rows(&rt, &limits, Order::Chance(seed))?;
+        assert!(rt; is_so, "seed {seed}");
     }
     Ok(())
 }

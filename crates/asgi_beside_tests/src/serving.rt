@@ -37,6 +37,17 @@ pub fn serve<H: Host, T: AppTask + Send + 'static, A: Application<Task = T>, L: 
     Ok((report.outcome, report.exchanges, report.faults, unmet))
 }
 
+/// The same of a stream of pieces.
+pub fn serve_pieces<H: Host, T: AppTask + Send + 'static, A: Application<Task = T>>(
+    rt: &H,
+    limits: &Limits,
+    app: &A,
+    line: &mut Memory<Pieces>,
+    asks: bool,
+) -> io::Result<End> {
+    serve(rt, limits, app, line, asks)
+}
+
 /// Whether the text comes this many times and nothing else, as the answer on a line that ends like this.
 pub fn is_answered<H: Host, T: AppTask + Send + 'static, A: Application<Task = T>>(
     rt: &H,
@@ -46,7 +57,7 @@ pub fn is_answered<H: Host, T: AppTask + Send + 'static, A: Application<Task = T
     wanted: (&[u8], usize, End),
 ) -> io::Result<bool> {
     let (text, times, end) = wanted;
-    let ended = serve(rt, limits, app, line, true)?;
+    let ended = serve_pieces(rt, limits, app, line, true)?;
     Ok(ended == end && is_repeated(text_of(line), text, times))
 }
 

@@ -202,39 +202,18 @@ impl Application for Refuses {
 #[derive(Clone, Copy)]
 pub struct Silent;
 
-/// Its task promises nothing, so that nothing is to be proved of the list.
-#[derive(Drop)]
-pub struct SilentTask(Says);
-
 impl Application for Silent {
-    type Task = SilentTask;
+    type Task = Says;
 
-    fn call(&self, alloc: Global, scope: &Scope) -> Result<SilentTask, AppFault> {
+    fn call(&self, alloc: Global, scope: &Scope) -> Result<Says, AppFault> {
         let Scope::Lifespan(_) = scope else {
             return Err(AppFault::Failed);
         };
-        Ok(SilentTask(answers(alloc)?))
+        let mut says = Says::with_room(alloc, Kind::Lifespan, 2)?;
+        says.add(complete(alloc, 5)?)?;
+        says.add(Outgoing::ShutdownComplete)?;
+        Ok(says)
     }
-}
-
-/// The answers to "Startup" and to "Shutdown".
-fn answers(alloc: Global) -> Result<Says, AllocError> {
-    let mut says = Says::with_room(alloc, Kind::Lifespan, 2)?;
-    add_answers(&mut says, alloc)?;
-    Ok(says)
-}
-
-fn add_answers(says: &mut Says, alloc: Global) -> Result<(), AllocError> {
-    says.add(complete(alloc, 5)?)?;
-    says.add(Outgoing::ShutdownComplete)
-}
-
-impl AppTask for SilentTask {
-    fn poll<E: AppEnd>(&mut self, cx: &mut Context<'_>, end: &mut E) -> Poll<Result<(), AppFault>> {
-        self.0.send(cx, end)
-    }
-
-    ghost keeps = { λ _ _ _ _ _. tt };
 }
 
 /// How a call was answered.
