@@ -1,9 +1,10 @@
 //! What a scope is told of the two ends of its connection, and a client that says nothing, over the loopback address.
-use crate::loopback::{are_both, connect, ends_like, free_port};
-use crate::queue::End;
-use asgi_apps::{AppFault, Application, Echo, Says};
-use asgi_conn::Outcome;
-use asgi_types::{Headers, HttpScope, Kind, Limits, Octets, Outgoing, Peer, Scope};
+use crate::loopback::{connect, free_port};
+use crate::queue::{End, is_reported, serve};
+use asgi_apps::{AppFault, AppTask, Application, Echo, Says};
+use asgi_conn::{Host, Outcome};
+use asgi_server::{Sockets, Workers};
+use asgi_types::{Headers, HttpScope, Kind, Limits, Octets, Outgoing, Peer, Scope, State};
 use std::alloc::{AllocError, AllocGlobal, Global};
 use std::io::{self, Read, Write};
 use std::net::{Net, OpenStream};
@@ -14,7 +15,7 @@ use std::time::Clock;
 const OLD_GET: &[u8] = b"GET / HTTP/1.0\r\n\r\n";
 
 /// Responds with the client and the server that its scope has, a line each.
-#[derive(Clone, Copy)]
+#[derive(Clone, Copy, Debug)]
 struct Ends;
 
 impl Application for Ends {
@@ -75,23 +76,37 @@ fn is_closed<N: Net + Clock + AllocGlobal>(rt: &N, port: u16) -> io::Result<bool
     Ok(answer.is_empty())
 }
 
-/// One connection, which gets its answer.
-const FINISHED: &[End] = &[(Outcome::Finished, 1)];
-
-/// One that is given up.
-const IDLE: &[End] = &[(Outcome::Idle, 0)];
+/// Whether one connection of the port ends like this, by one worker.
+fn ends_like<
+    K: OpenStream + Read + Write + Drop + Send,
+    N: Net<Stream = K> + Clock + Host + Sync,
+    T: AppTask + Send + 'static,
+    A: Application<Task = T> + Send + Sync,
+>(rt: &N, app: &A, limits: &Limits, port: u16, end: End) -> Result<bool, AllocError>
+where
+    N::Listener: Send,
+{
+    let state = State::new(rt.alloc());
+    let Some(one) = Workers::new(1) else {
+        return Err(AllocError);
+    };
+    let mut listener = Sockets::non_blocking(rt, rt.alloc(), port, 1);
+    let reports = serve(rt, app, &state, &mut listener, limits, one)?;
+    Ok(is_reported(&reports, &[end]))
+}
 
 #[test]
 fn a_scope_has_the_names_of_its_connections_two_sockets(rt: HostRuntime) -> Result<(), Fail> {
     let port = free_port(&rt)?;
     let there = &rt;
+    let limits = Limits::usual();
+    let how = &limits;
     let (told, served) = thread::join(
         &rt,
         move || is_told(there, port),
-        move || ends_like(there, &Ends, &Limits::usual(), port, 1, FINISHED),
+        move || ends_like(there, &Ends, how, port, (Outcome::Finished, 1)),
     );
-    let held = are_both(told, served)?;
-    assert!(rt; held);
+    assert_eq!(rt; (told?, served?), (true, true));
     Ok(())
 }
 
@@ -104,9 +119,8 @@ fn a_silent_client_is_given_up(rt: HostRuntime) -> Result<(), Fail> {
     let (closed, served) = thread::join(
         &rt,
         move || is_closed(there, port),
-        move || ends_like(there, &Echo, how, port, 1, IDLE),
+        move || ends_like(there, &Echo, how, port, (Outcome::Idle, 0)),
     );
-    let held = are_both(closed, served)?;
-    assert!(rt; held);
+    assert_eq!(rt; (closed?, served?), (true, true));
     Ok(())
 }

@@ -1,5 +1,5 @@
 //! The lifespan of an application, and its connections between its start and its stop.
-use crate::queue::{Case, is_served};
+use crate::queue::is_served;
 use asgi_apps::{AppTask, Application, Hello, Life, Mounts, RootPath};
 use asgi_conn::{CountingPause, Host, Outcome};
 use asgi_server::{Lifespan, Start, Stop};
@@ -14,19 +14,13 @@ const SEVEN: &[u8] =
     b"HTTP/1.1 200 OK\r\ncontent-type: text/plain\r\nconnection: close\r\n\r\nn=7\n";
 
 /// How an application was started, served and stopped.
-#[derive(Clone, Copy, PartialEq, Eq)]
+#[derive(Clone, Copy, Debug, PartialEq, Eq)]
 enum Way {
     Unsupported,
     NotStarted,
     /// Whether two connections had the state of the start, and whether it stopped.
     Lived(bool, bool),
 }
-
-const SEVENS: Case<'static> = (
-    &[OLD_GET, OLD_GET],
-    &[&[SEVEN], &[SEVEN]],
-    &[(Outcome::Finished, 1), (Outcome::Finished, 1)],
-);
 
 /// Starts the application, serves two connections, and stops it.
 fn live<H: Host + Sync, T: AppTask + Send + 'static, A: Application<Task = T> + Send + Sync>(
@@ -38,7 +32,8 @@ fn live<H: Host + Sync, T: AppTask + Send + 'static, A: Application<Task = T> + 
     let mut pause = CountingPause::new();
     match Lifespan::start(rt.alloc(), app, &limits, cx, &mut pause) {
         Start::Started(lifespan, state) => {
-            let held = is_served(rt, app, &state, SEVENS);
+            let ends = [(Outcome::Finished, 1), (Outcome::Finished, 1)];
+            let held = is_served(rt, app, &state, [OLD_GET, OLD_GET], [SEVEN, SEVEN], &ends);
             let stopped = is_stopped(lifespan.stop(cx, &mut pause));
             Ok(Way::Lived(held?, stopped))
         }
@@ -72,21 +67,21 @@ fn way_of<H: Host + Sync, T: AppTask + Send + 'static, A: Application<Task = T> 
     way
 }
 
-/// An application with a lifespan, and its way.
-const LIVES: &[(Life, Way)] = &[
-    (Life::Works, Way::Lived(true, true)),
-    (Life::NoStop, Way::Lived(true, false)),
-    (Life::NoStart, Way::NotStarted),
-];
-
 #[test]
 fn the_state_of_the_start_is_in_each_scope(rt: HostRuntime) -> Result<(), Fail> {
-    for (place, (life, wanted)) in LIVES.iter().enumerate() {
-        let way = way_of(&rt, life)?;
-        assert!(rt; (way, place) == (*wanted, place), "row {place}");
-    }
-    let way = way_of(&rt, &Hello)?;
-    assert!(rt; way == Way::Unsupported);
+    let ways = [
+        way_of(&rt, &Life::Works)?,
+        way_of(&rt, &Life::NoStop)?,
+        way_of(&rt, &Life::NoStart)?,
+        way_of(&rt, &Hello)?,
+    ];
+    let wanted = [
+        Way::Lived(true, true),
+        Way::Lived(true, false),
+        Way::NotStarted,
+        Way::Unsupported,
+    ];
+    assert_eq!(rt; ways, wanted);
     Ok(())
 }
 
@@ -101,31 +96,21 @@ fn mounts(alloc: Global) -> Result<Mounts<RootPath>, Fail> {
     Ok(mounts)
 }
 
-const PREFIXES: Case<'static> = (
-    &[
-        b"GET /a/bc HTTP/1.0\r\n\r\n",
-        b"GET /a/b HTTP/1.1\r\nHost: a\r\n\r\nGET /x HTTP/1.1\r\nHost: a\r\n\r\n",
-    ],
-    &[
-        &[b"HTTP/1.1 200 OK\r\ncontent-type: text/plain\r\nconnection: close\r\n\r\n/a\n"],
-        &[
-            b"HTTP/1.1 200 OK\r\ncontent-type: text/plain\r\ntransfer-encoding: chunked\r\n\r\n5\r\n/a/b\n\r\n0\r\n\r\nHTTP/1.1 404 Not Found\r\ncontent-length: 0\r\n\r\n",
-        ],
-    ],
-    &[(Outcome::Finished, 1), (Outcome::Finished, 2)],
-);
-
-fn are_mounted<H: Host + Sync>(rt: &H) -> Result<bool, Fail> {
-    let app = mounts(rt.alloc())?;
-    let state = State::new(rt.alloc());
-    let held = is_served(rt, &app, &state, PREFIXES);
-    drop(app);
-    Ok(held?)
-}
-
 #[test]
 fn a_path_goes_to_the_longest_prefix(rt: HostRuntime) -> Result<(), Fail> {
-    let held = are_mounted(&rt)?;
-    assert!(rt; held);
+    let state = State::new(rt.alloc());
+    let inputs: [&[u8]; 2] = [
+        b"GET /a/bc HTTP/1.0\r\n\r\n",
+        b"GET /a/b HTTP/1.1\r\nHost: a\r\n\r\nGET /x HTTP/1.1\r\nHost: a\r\n\r\n",
+    ];
+    let outputs: [&[u8]; 2] = [
+        b"HTTP/1.1 200 OK\r\ncontent-type: text/plain\r\nconnection: close\r\n\r\n/a\n",
+        b"HTTP/1.1 200 OK\r\ncontent-type: text/plain\r\ntransfer-encoding: chunked\r\n\r\n5\r\n/a/b\n\r\n0\r\n\r\nHTTP/1.1 404 Not Found\r\ncontent-length: 0\r\n\r\n",
+    ];
+    let ends = [(Outcome::Finished, 1), (Outcome::Finished, 2)];
+    let app = mounts(rt.alloc())?;
+    let held = is_served(&rt, &app, &state, inputs, outputs, &ends);
+    drop(app);
+    assert!(rt; held?);
     Ok(())
 }

@@ -1,9 +1,9 @@
 //! Connections over the loopback address, whose client is a thread of the test.
-use crate::queue::{End, end_like};
-use asgi_apps::{AppTask, Application, Echo};
+use crate::queue::{is_reported, serve};
+use asgi_apps::Echo;
 use asgi_conn::{Host, Outcome};
-use asgi_server::{Accepts, Listener, Listening, Sockets};
-use asgi_types::Limits;
+use asgi_server::{Accepts, Listener, Listening, Sockets, Workers};
+use asgi_types::{Limits, State};
 use std::alloc::{AllocError, AllocGlobal};
 use std::io::{self, ErrorKind, Read, Write};
 use std::net::{
@@ -62,34 +62,23 @@ fn are_answered<N: Net + Clock + AllocGlobal>(rt: &N, port: u16) -> io::Result<b
     Ok(one.as_slice() == ANSWER && other.as_slice() == ANSWER)
 }
 
-/// Whether connections of the port, as many as there are ends, end like this by this many workers.
-pub fn ends_like<
-    K: OpenStream + Read + Write + Drop + Send,
-    N: Net<Stream = K> + Clock + Host + Sync,
-    T: AppTask + Send + 'static,
-    A: Application<Task = T> + Send + Sync,
->(
+/// Whether two connections of the port are served to their end, by two workers.
+fn serves<K: OpenStream + Read + Write + Drop + Send, N: Net<Stream = K> + Clock + Host + Sync>(
     rt: &N,
-    app: &A,
-    limits: &Limits,
     port: u16,
-    workers: u64,
-    ends: &[End],
 ) -> Result<bool, AllocError>
 where
     N::Listener: Send,
 {
-    let mut listener = Sockets::non_blocking(rt, rt.alloc(), port, ends.len() as u64);
-    end_like(rt, app, &mut listener, limits, workers, ends)
+    let state = State::new(rt.alloc());
+    let Some(two) = Workers::new(2) else {
+        return Err(AllocError);
+    };
+    let mut listener = Sockets::non_blocking(rt, rt.alloc(), port, 2);
+    let reports = serve(rt, &Echo, &state, &mut listener, &Limits::usual(), two)?;
+    let ends = [(Outcome::Finished, 1), (Outcome::Finished, 1)];
+    Ok(is_reported(&reports, &ends))
 }
-
-/// Whether a client and its server are both content.
-pub fn are_both(client: io::Result<bool>, server: Result<bool, AllocError>) -> Result<bool, Fail> {
-    let is_so = client?;
-    Ok(server? && is_so)
-}
-
-const TWO: &[End] = &[(Outcome::Finished, 1), (Outcome::Finished, 1)];
 
 #[test]
 fn a_client_in_a_thread_of_its_own_is_answered(rt: HostRuntime) -> Result<(), Fail> {
@@ -98,10 +87,9 @@ fn a_client_in_a_thread_of_its_own_is_answered(rt: HostRuntime) -> Result<(), Fa
     let (answered, served) = thread::join(
         &rt,
         move || are_answered(there, port),
-        move || ends_like(there, &Echo, &Limits::usual(), port, 2, TWO),
+        move || serves(there, port),
     );
-    let held = are_both(answered, served)?;
-    assert!(rt; held);
+    assert_eq!(rt; (answered?, served?), (true, true));
     Ok(())
 }
 
@@ -113,7 +101,13 @@ fn serves_open<
 where
     N::Listener: Send,
 {
-    end_like(rt, &Echo, &mut listener, &Limits::usual(), 2, TWO)
+    let state = State::new(rt.alloc());
+    let Some(two) = Workers::new(2) else {
+        return Err(AllocError);
+    };
+    let reports = serve(rt, &Echo, &state, &mut listener, &Limits::usual(), two)?;
+    let ends = [(Outcome::Finished, 1), (Outcome::Finished, 1)];
+    Ok(is_reported(&reports, &ends))
 }
 
 #[test]
@@ -127,8 +121,7 @@ fn a_socket_that_is_open_is_served(rt: HostRuntime) -> Result<(), Fail> {
         move || are_answered(there, port),
         move || serves_open(there, listener),
     );
-    let held = are_both(answered, served)?;
-    assert!(rt; held);
+    assert_eq!(rt; (answered?, served?), (true, true));
     Ok(())
 }
 

@@ -79,8 +79,7 @@ pub fn is_reported(reports: &[(u64, Report)], ends: &[End]) -> bool {
             return false;
         };
         at += 1;
-        // As parts of one value: a proof of `!=` of two outcomes alone goes through the variants of both.
-        if (*number, report.outcome, report.exchanges) != (at as u64, *outcome, *exchanges) {
+        if *number != at as u64 || report.outcome != *outcome || report.exchanges != *exchanges {
             return false;
         }
     }
@@ -205,55 +204,8 @@ pub fn serve_feed<
     reports
 }
 
-/// Whether connections of this listener end like this, by this many workers.
-pub fn end_like<
-    H: Host + Sync,
-    T: AppTask + Send + 'static,
-    A: Application<Task = T> + Send + Sync,
-    L: Line + Drop + Send,
-    N: Listener<L = L> + Send,
->(
-    rt: &H,
-    app: &A,
-    listener: &mut N,
-    limits: &Limits,
-    workers: u64,
-    ends: &[End],
-) -> Result<bool, AllocError> {
-    let Some(workers) = Workers::new(workers) else {
-        return Err(AllocError);
-    };
-    let state = State::new(rt.alloc());
-    let reports = serve(rt, app, &state, listener, limits, workers)?;
-    Ok(is_reported(&reports, ends))
-}
-
-/// The parts of a text.
-pub type Parts<'a> = &'a [&'a [u8]];
-
-fn is_text(text: &[u8], parts: Parts<'_>) -> bool {
-    let mut rest = text;
-    for part in parts {
-        match rest.strip_prefix(*part) {
-            Some(after) => rest = after,
-            None => return false,
-        }
-    }
-    rest.is_empty()
-}
-
-/// Whether each text is of its parts.
-pub fn are_texts(texts: &[Vec<u8>], outputs: &[Parts<'_>]) -> bool {
-    for (text, parts) in texts.iter().zip(outputs) {
-        if !is_text(text.as_slice(), parts) {
-            return false;
-        }
-    }
-    texts.len() == outputs.len()
-}
-
-/// Whether connections with these inputs end like this, and fill these texts, by this many workers.
-fn is_served_to<
+/// Whether two connections with these inputs end like this, and have these outputs, by one worker and by two.
+pub fn is_served<
     H: Host + Sync,
     T: AppTask + Send + 'static,
     A: Application<Task = T> + Send + Sync,
@@ -261,36 +213,22 @@ fn is_served_to<
     rt: &H,
     app: &A,
     state: &State,
-    (inputs, outputs, ends): Case<'_>,
-    texts: &mut [Vec<u8>],
-    workers: u64,
+    inputs: [&[u8]; 2],
+    outputs: [&[u8]; 2],
+    ends: &[End],
 ) -> Result<bool, AllocError> {
     let limits = Limits::usual();
-    let reports = serve_feed(rt, app, state, inputs, texts, &limits, workers)?;
-    Ok(is_reported(&reports, ends) && are_texts(texts, outputs))
-}
-
-/// The same with texts of its own.
-fn is_served_by<
-    H: Host + Sync,
-    T: AppTask + Send + 'static,
-    A: Application<Task = T> + Send + Sync,
->(rt: &H, app: &A, state: &State, case: Case<'_>, workers: u64) -> Result<bool, AllocError> {
-    let mut texts = [Vec::new(rt.alloc()), Vec::new(rt.alloc())];
-    is_served_to(rt, app, state, case, &mut texts, workers)
-}
-
-/// What two connections read, what is written to them, and how they end.
-pub type Case<'a> = (&'a [&'a [u8]], &'a [Parts<'a>], &'a [End]);
-
-/// Whether two connections with these inputs end like this, and have these outputs, by one worker and by two.
-pub fn is_served<
-    H: Host + Sync,
-    T: AppTask + Send + 'static,
-    A: Application<Task = T> + Send + Sync,
->(rt: &H, app: &A, state: &State, case: Case<'_>) -> Result<bool, AllocError> {
-    let by_one = is_served_by(rt, app, state, case, 1)?;
-    Ok(by_one && is_served_by(rt, app, state, case, 2)?)
+    for workers in [1, 2] {
+        let mut texts = [Vec::new(rt.alloc()), Vec::new(rt.alloc())];
+        let reports = serve_feed(rt, app, state, &inputs, &mut texts, &limits, workers)?;
+        if !is_reported(&reports, ends)
+            || texts[0].as_slice() != outputs[0]
+            || texts[1].as_slice() != outputs[1]
+        {
+            return Ok(false);
+        }
+    }
+    Ok(true)
 }
 
 /// Whether two connections with this input are served by this many workers, or not begun or ended for want of memory or
@@ -301,32 +239,19 @@ pub fn is_begun<
     A: Application<Task = T> + Send + Sync,
 >(rt: &H, app: &A, state: &State, input: &[u8], output: &[u8], workers: u64) -> bool {
     let mut texts = [Vec::new(rt.alloc()), Vec::new(rt.alloc())];
-    is_begun_to(rt, app, state, input, &mut texts, workers) && are_lawful(&texts, output)
-}
-
-/// Whether they are served so, or not, into these texts.
-fn is_begun_to<H: Host + Sync, T: AppTask + Send + 'static, A: Application<Task = T> + Send + Sync>(
-    rt: &H,
-    app: &A,
-    state: &State,
-    input: &[u8],
-    texts: &mut [Vec<u8>],
-    workers: u64,
-) -> bool {
-    let limits = Limits::usual();
-    match serve_feed(rt, app, state, &[input], texts, &limits, workers) {
+    let well = match serve_feed(
+        rt,
+        app,
+        state,
+        &[input],
+        &mut texts,
+        &Limits::usual(),
+        workers,
+    ) {
         Ok(reports) => reports.len() == 2 && are_whole_or_lack_memory(&reports),
         Err(_lacks) => true,
-    }
-}
-
-fn are_lawful(texts: &[Vec<u8>], output: &[u8]) -> bool {
-    for text in texts {
-        if !is_lawful(text.as_slice(), output) {
-            return false;
-        }
-    }
-    true
+    };
+    well && is_lawful(&texts[0], output) && is_lawful(&texts[1], output)
 }
 
 /// Whether this may be written if memory is refused somewhere.

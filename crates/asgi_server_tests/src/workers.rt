@@ -1,7 +1,7 @@
 //! Many connections, by many workers at the same time.
 use crate::queue::{End, is_reported, serve_feed};
 use asgi_apps::{AppFault, AppTask, Application, Hello};
-use asgi_conn::{Host, Outcome};
+use asgi_conn::{Host, Outcome, Report};
 use asgi_fakes::texts::{GET, HELLO, SERVER_ERROR};
 use asgi_fakes::{Said, Scripted, ScriptedTask, Step};
 use asgi_pipes::AppEnd;
@@ -33,7 +33,7 @@ fn is_fatal(scope: &Scope) -> bool {
 }
 
 /// Responds as `Hello`; a task for the fatal path faults at once.
-#[derive(Clone, Copy)]
+#[derive(Clone, Copy, Debug)]
 struct Faulty;
 
 impl Application for Faulty {
@@ -102,65 +102,20 @@ fn texts_of(alloc: Global, count: usize) -> Result<Vec<Vec<u8>>, AllocError> {
     Ok(texts)
 }
 
-/// Whether the texts are these in turn. If none is named, they may be any.
-fn are_in_turn(texts: &[Vec<u8>], outputs: &[&[u8]]) -> bool {
-    let mut left = outputs;
-    for text in texts {
-        if left.is_empty() {
-            left = outputs;
-        }
-        let Some((wanted, rest)) = left.split_first() else {
-            return true;
-        };
-        if text.as_slice() != *wanted {
+/// Whether each report is of one finished exchange, `count` of them, numbered from 1.
+fn are_finished(reports: &[(u64, Report)], count: usize) -> bool {
+    let mut next = 0_u64;
+    for (number, report) in reports {
+        next = next.saturating_add(1);
+        if *number != next || report.exchanges != 1 || report.outcome != Outcome::Finished {
             return false;
         }
-        left = rest;
     }
-    true
+    reports.len() == count
 }
-
-/// What connections read in turn, and what is written to them in turn, if that is named.
-type Texts<'a> = (&'a [&'a [u8]], &'a [&'a [u8]]);
-
-fn are_served_to<
-    H: Host + Sync,
-    T: AppTask + Send + 'static,
-    A: Application<Task = T> + Send + Sync,
->(
-    rt: &H,
-    app: &A,
-    limits: &Limits,
-    (inputs, outputs): Texts<'_>,
-    texts: &mut [Vec<u8>],
-    workers: u64,
-    ends: &[End],
-) -> Result<bool, AllocError> {
-    let state = State::new(rt.alloc());
-    let reports = serve_feed(rt, app, &state, inputs, texts, limits, workers)?;
-    Ok(is_reported(&reports, ends) && are_in_turn(texts, outputs))
-}
-
-/// Whether as many connections as there are ends get that and end like this, by this many workers.
-fn are_served<H: Host + Sync, T: AppTask + Send + 'static, A: Application<Task = T> + Send + Sync>(
-    rt: &H,
-    app: &A,
-    limits: &Limits,
-    case: Texts<'_>,
-    workers: u64,
-    ends: &[End],
-) -> Result<bool, AllocError> {
-    let mut texts = texts_of(rt.alloc(), ends.len())?;
-    are_served_to(rt, app, limits, case, &mut texts, workers, ends)
-}
-
-const ONE: End = (Outcome::Finished, 1);
-
-/// As many as any row has.
-const ONES: &[End] = &[ONE; 40];
 
 /// How many connections there are, and how many workers.
-const ROWS: &[(usize, u64)] = &[
+const ROWS: [(usize, u64); 8] = [
     (0, 1),
     (0, 8),
     (1, 8),
@@ -171,21 +126,20 @@ const ROWS: &[(usize, u64)] = &[
     (40, 2),
 ];
 
-const GREETED: Texts<'static> = (&[GET], &[HELLO]);
-
 /// Whether each of `count` connections gets its response and its report, by this many workers.
-fn are_greeted<H: Host + Sync>(rt: &H, count: usize, workers: u64) -> Result<bool, AllocError> {
-    match ONES.get(..count) {
-        Some(ends) => are_served(rt, &Hello, &Limits::usual(), GREETED, workers, ends),
-        None => Ok(false),
-    }
+fn are_served<H: Host + Sync>(rt: &H, count: usize, workers: u64) -> Result<bool, Fail> {
+    let state = State::new(rt.alloc());
+    let limits = Limits::usual();
+    let mut texts = texts_of(rt.alloc(), count)?;
+    let reports = serve_feed(rt, &Hello, &state, &[GET], &mut texts, &limits, workers)?;
+    let answered = texts.iter().all(|text| text.as_slice() == HELLO);
+    Ok(are_finished(&reports, count) && answered)
 }
 
 #[test]
 fn each_connection_is_served_once_by_so_many_workers(rt: HostRuntime) -> Result<(), Fail> {
     for (count, workers) in ROWS {
-        let held = are_greeted(&rt, *count, *workers)?;
-        assert!(rt; held, "{count} by {workers}");
+        assert!(rt; are_served(&rt, count, workers)?, "{count} by {workers}");
     }
     Ok(())
 }
@@ -194,8 +148,7 @@ fn each_connection_is_served_once_by_so_many_workers(rt: HostRuntime) -> Result<
 fn a_listener_that_ends_at_each_place_loses_no_connection(rt: HostRuntime) -> Result<(), Fail> {
     for count in 0..20 {
         for workers in 1..9 {
-            let held = are_greeted(&rt, count, workers)?;
-            assert!(rt; held, "{count} by {workers}");
+            assert!(rt; are_served(&rt, count, workers)?, "{count} by {workers}");
         }
     }
     Ok(())
@@ -206,8 +159,19 @@ fn patient(idle_turns: u32) -> Result<Limits, BadLimit> {
     Limits::new(16_384, 64, 1 << 20, 16_384, 16, idle_turns, 1 << 40)
 }
 
-/// Whether connections with these inputs in turn, as many as there are ends, end like this by this many workers, at a gate
-/// that opens once `need` tasks have been polled.
+/// `count` connections at a gate that opens once as many tasks have been polled: how they end.
+fn gathered<H: Host + Sync>(
+    rt: &H,
+    count: usize,
+    workers: u64,
+    idle_turns: u32,
+    ends: &[End],
+) -> Result<bool, Fail> {
+    are_gathered(rt, count as u64, &[GET], workers, idle_turns, ends)
+}
+
+/// Connections with these inputs in turn, as many as there are ends, at a gate that opens once so many tasks have been
+/// polled.
 fn are_gathered<H: Host + Sync>(
     rt: &H,
     need: u64,
@@ -216,64 +180,69 @@ fn are_gathered<H: Host + Sync>(
     idle_turns: u32,
     ends: &[End],
 ) -> Result<bool, Fail> {
+    let state = State::new(rt.alloc());
+    let app = Gathers {
+        need,
+        polled: Arc::new(rt.alloc(), AtomicU64::new(0))?,
+    };
     let limits = patient(idle_turns)?;
-    let polled = Arc::new(rt.alloc(), AtomicU64::new(0))?;
-    let app = Gathers { need, polled };
-    Ok(are_served(rt, &app, &limits, (inputs, &[]), workers, ends)?)
+    let mut texts = texts_of(rt.alloc(), ends.len())?;
+    let reports = serve_feed(rt, &app, &state, inputs, &mut texts, &limits, workers)?;
+    Ok(is_reported(&reports, ends))
 }
 
-/// How many connections, tasks and workers there are, and how the connections end.
-const GATHERED: &[(u64, &[End])] = &[(2, &[ONE; 2]), (8, &[ONE; 8])];
+const ONE: End = (Outcome::Finished, 1);
 
 #[test]
 fn as_many_are_served_at_once_as_there_are_workers(rt: HostRuntime) -> Result<(), Fail> {
-    for (need, ends) in GATHERED {
-        let held = are_gathered(&rt, *need, &[GET], *need, 30_000, ends)?;
-        assert!(rt; held, "{need} at once");
-    }
+    assert!(rt; gathered(&rt, 2, 2, 30_000, &[ONE; 2])?);
+    assert!(rt; gathered(&rt, 8, 8, 30_000, &[ONE; 8])?);
     Ok(())
 }
 
 #[test]
 fn one_worker_gives_up_what_needs_two(rt: HostRuntime) -> Result<(), Fail> {
-    let held = are_gathered(&rt, 2, &[GET], 1, 600, &[(Outcome::Idle, 1), ONE])?;
-    assert!(rt; held);
+    assert!(rt; gathered(&rt, 2, 1, 600, &[(Outcome::Idle, 1), ONE])?);
     Ok(())
 }
 
 const FAULT: End = (Outcome::Refused(500), 1);
 
-const TURNS: Texts<'static> = (&[GET, GET_FATAL], &[HELLO, SERVER_ERROR]);
+/// Whether each second of six connections faults, is answered for and is reported, and the others are served.
+fn are_apart<H: Host + Sync>(rt: &H, workers: u64) -> Result<bool, Fail> {
+    let state = State::new(rt.alloc());
+    let limits = Limits::usual();
+    let mut texts = texts_of(rt.alloc(), 6)?;
+    let inputs = [GET, GET_FATAL];
+    let reports = serve_feed(rt, &Faulty, &state, &inputs, &mut texts, &limits, workers)?;
+    let held = is_reported(&reports, &[ONE, FAULT, ONE, FAULT, ONE, FAULT]);
+    Ok(held && are_by_turns(&texts))
+}
 
-/// Each second of six connections faults, is answered for and is reported, and the others are served.
-const BY_TURNS: &[End] = &[ONE, FAULT, ONE, FAULT, ONE, FAULT];
-
-/// The numbers of workers.
-const FEW_TO_MANY: &[u64] = &[1, 2, 8];
-
-fn are_apart<H: Host + Sync>(rt: &H, workers: u64) -> Result<bool, AllocError> {
-    are_served(rt, &Faulty, &Limits::usual(), TURNS, workers, BY_TURNS)
+/// Whether each second text is the response to a fault, and each other one the greeting.
+fn are_by_turns(texts: &[Vec<u8>]) -> bool {
+    let mut is_fault = false;
+    for text in texts {
+        let wanted = if is_fault { SERVER_ERROR } else { HELLO };
+        if text.as_slice() != wanted {
+            return false;
+        }
+        is_fault = !is_fault;
+    }
+    true
 }
 
 #[test]
 fn a_task_that_faults_disturbs_no_other_connection(rt: HostRuntime) -> Result<(), Fail> {
-    for workers in FEW_TO_MANY {
-        let held = are_apart(&rt, *workers)?;
-        assert!(rt; held, "{workers} workers");
+    for workers in [1, 2, 8] {
+        assert!(rt; are_apart(&rt, workers)?, "{workers} workers");
     }
     Ok(())
 }
 
 #[test]
 fn a_call_that_faults_leaves_those_that_wait_for_each_other(rt: HostRuntime) -> Result<(), Fail> {
-    let held = are_gathered(
-        &rt,
-        2,
-        &[GET, GET, GET_FATAL],
-        2,
-        30_000,
-        &[ONE, ONE, FAULT],
-    )?;
-    assert!(rt; held);
+    let inputs = [GET, GET, GET_FATAL];
+    assert!(rt; are_gathered(&rt, 2, &inputs, 2, 30_000, &[ONE, ONE, FAULT])?);
     Ok(())
 }
