@@ -5,6 +5,7 @@ use asgi_fakes::{App, End, Memory, Pieces, Way, is_served, line_of, serve_by, te
 use asgi_io::Reads;
 use asgi_types::Limits;
 use std::io::{self, ErrorKind};
+use std::process::Abort;
 use std::test::Fail;
 
 const CLOSE: &[u8] = b"\r\nGET / HTTP/1.1\r\nHost: a\r\nConnection: close\r\n\r\n";
@@ -32,59 +33,31 @@ fn is_row<H: Host>(rt: &H, row: &Row, reader: Pieces) -> io::Result<bool> {
     is_served(rt, &Limits::usual(), App::Hello, reader, wanted, end)
 }
 
-/// The first place at which the row fails if its input is cut in two there.
-fn wrong_cut<H: Host>(rt: &H, row: &Row) -> io::Result<Option<usize>> {
+fn check_halves<H: Abort + Host>(rt: &H, row: &Row) -> Result<(), Fail> {
     for place in 1..row.0.len() {
-        if !is_row(rt, row, Pieces::new(row.0, place, 4_096))? {
-            return Ok(Some(place));
-        }
+        let two = Pieces::new(row.0, place, 4_096);
+        assert!(rt; is_row(rt, row, two)?, "cut at {place}");
     }
-    Ok(None)
+    Ok(())
 }
 
-/// How many bytes come in a read, and the fault that comes before each, if any.
-const SIZES: &[(usize, Option<ErrorKind>)] = &[
-    (1, None),
-    (2, None),
-    (7, None),
-    (1_000, None),
-    (1, Some(ErrorKind::WouldBlock)),
-    (2, Some(ErrorKind::WouldBlock)),
-    (7, Some(ErrorKind::WouldBlock)),
-    (1_000, Some(ErrorKind::WouldBlock)),
-    (1, Some(ErrorKind::Interrupted)),
-    (2, Some(ErrorKind::Interrupted)),
-    (7, Some(ErrorKind::Interrupted)),
-    (1_000, Some(ErrorKind::Interrupted)),
-];
-
-fn pieces_of(input: &[u8], size: usize, before: Option<ErrorKind>) -> Pieces<'_> {
-    let mut pieces = Pieces::new(input, size, size);
-    pieces.before = before;
-    pieces
-}
-
-/// The first piece size with which the row fails.
-fn wrong_size<H: Host>(rt: &H, row: &Row) -> io::Result<Option<usize>> {
-    for (size, before) in SIZES {
-        if !is_row(rt, row, pieces_of(row.0, *size, *before))? {
-            return Ok(Some(*size));
-        }
+/// Pieces of four sizes, with this fault before each read, if any.
+fn check_pieces<H: Abort + Host>(rt: &H, row: &Row, before: Option<ErrorKind>) -> Result<(), Fail> {
+    for size in [1, 2, 7, 1_000] {
+        let mut pieces = Pieces::new(row.0, size, size);
+        pieces.before = before;
+        assert!(rt; is_row(rt, row, pieces)?, "pieces of {size}");
     }
-    Ok(None)
+    Ok(())
 }
 
 #[test]
 fn cuts_change_nothing(rt: HostRuntime) -> Result<(), Fail> {
-    for (place, row) in ROWS.iter().enumerate() {
-        let cut = wrong_cut(&rt, row)?;
-        let size = wrong_size(&rt, row)?;
-        assert!(rt;
-            cut.is_none() && size.is_none(),
-            "row {place}, cut at {}, pieces of {}",
-            cut.unwrap_or(0),
-            size.unwrap_or(0)
-        );
+    for row in ROWS {
+        check_halves(&rt, row)?;
+        check_pieces(&rt, row, None)?;
+        check_pieces(&rt, row, Some(ErrorKind::WouldBlock))?;
+        check_pieces(&rt, row, Some(ErrorKind::Interrupted))?;
     }
     Ok(())
 }
@@ -109,15 +82,14 @@ fn is_line_unanswered<H: Host>(
 ) -> io::Result<bool> {
     let (report, _) = serve_by(rt, Way::Inline, &Limits::usual(), App::Hello, line)?;
     let counts = (report.exchanges, report.turns, line.faults());
-    let is_broken = matches!(report.outcome, Outcome::InputBroke);
-    Ok(is_broken && counts == (0, failing, 1) && text_of(line).is_empty())
+    let ended = report.outcome == Outcome::InputBroke && counts == (0, failing, 1);
+    Ok(ended && text_of(line).is_empty())
 }
 
 #[test]
 fn a_read_that_fails_gets_no_answer(rt: HostRuntime) -> Result<(), Fail> {
     for failing in 1..=27 {
-        let is_so = is_unanswered(&rt, failing)?;
-        assert!(rt; is_so, "read {failing}");
+        assert!(rt; is_unanswered(&rt, failing)?, "read {failing}");
     }
     Ok(())
 }
@@ -132,9 +104,8 @@ fn is_answered<H: Host>(rt: &H, failing: u64, outcome: Outcome) -> io::Result<bo
 #[test]
 fn a_read_that_fails_after_a_request_leaves_its_answer(rt: HostRuntime) -> Result<(), Fail> {
     // The read after the request, and one more, which is not made.
-    let first = is_answered(&rt, 28, Outcome::InputBroke)?;
-    let other = is_answered(&rt, 29, Outcome::Finished)?;
-    assert!(rt; (first, other) == (true, true));
+    assert!(rt; is_answered(&rt, 28, Outcome::InputBroke)?);
+    assert!(rt; is_answered(&rt, 29, Outcome::Finished)?);
     Ok(())
 }
 
@@ -158,21 +129,17 @@ fn is_line_begun<H: Host>(
     line: &mut Memory<Pieces>,
 ) -> io::Result<bool> {
     let (report, _) = serve_by(rt, way, limits, App::Echo, line)?;
-    let is_broken = matches!(report.outcome, Outcome::InputBroke);
-    Ok(is_broken && CHUNKS_ECHOED.starts_with(text_of(line)))
+    Ok(report.outcome == Outcome::InputBroke && CHUNKS_ECHOED.starts_with(text_of(line)))
 }
-
-const WAYS: &[Way] = &[Way::Inline, Way::Beside];
 
 #[test]
 fn a_read_that_fails_in_a_body_leaves_a_beginning_of_its_answer(
     rt: HostRuntime,
 ) -> Result<(), Fail> {
     let limits = Limits::new(16_384, 64, 1_048_576, 4, 16, 30_000, 1_000_000)?;
-    for way in WAYS {
+    for way in [Way::Inline, Way::Beside] {
         for failing in 1..=87 {
-            let is_so = is_begun(&rt, *way, &limits, failing)?;
-            assert!(rt; is_so, "read {failing}");
+            assert!(rt; is_begun(&rt, way, &limits, failing)?, "read {failing}");
         }
     }
     Ok(())

@@ -47,32 +47,54 @@ fn head_with(alloc: Global, others: usize) -> Result<Vec<u8>, AllocError> {
     Ok(head)
 }
 
-/// What is read at a time, what is written, how the connection ends, its exchanges, how many reads there are, and
-/// how many turns that read nothing. The last read finds the end of the input. The greeting takes three turns that read
+/// What is read at a time, what is written, how the connection ends, how many reads there are, and
+/// how many turns that read nothing.
+#[derive(Clone, Copy)]
+struct Served {
+    piece: usize,
+    wanted: &'static [u8],
+    outcome: Outcome,
+    exchanges: u64,
+    reads: u64,
+    more: u64,
+}
+
+/// The last read finds the end of the input. The greeting takes three turns that read
 /// nothing: a turn takes as many items as the ring has places, two, and the end of its task comes after two events.
-type Served = (usize, &'static [u8], Outcome, u64, u64, u64);
-
-/// The outcome, the exchanges, the faults and the idle turns at the end.
-type Ended = (Outcome, u64, u64, u32);
-
-// Calls, of which nothing is known: a proof would go through the variants of each outcome that it knows as a part.
-fn ended(report: &Report) -> Ended {
-    (report.outcome, report.exchanges, report.faults, report.idle)
+const fn hello(piece: usize, reads: u64) -> Served {
+    Served {
+        piece,
+        wanted: HELLO,
+        outcome: Outcome::Finished,
+        exchanges: 1,
+        reads,
+        more: 3,
+    }
 }
 
-fn ended_as((_, _, outcome, exchanges, _, _): &Served) -> Ended {
-    (*outcome, *exchanges, 0, 0)
+const fn refused(wanted: &'static [u8], status: u16, reads: u64) -> Served {
+    Served {
+        piece: 4_096,
+        wanted,
+        outcome: Outcome::Refused(status),
+        exchanges: 0,
+        reads,
+        more: 0,
+    }
 }
 
-fn is_report(report: &Report, served: &Served) -> bool {
-    let reads = report.turns.checked_sub(served.5);
-    ended(report) == ended_as(served) && reads == Some(served.4)
+fn is_report(report: &Report, served: Served) -> bool {
+    report.outcome == served.outcome
+        && report.exchanges == served.exchanges
+        && report.turns.checked_sub(served.more) == Some(served.reads)
+        && report.faults == 0
+        && report.idle == 0
 }
 
 /// Whether the input is served like this, under the greatest limits on heads.
-fn is_head_served<H: Host>(rt: &H, input: &[u8], served: &Served) -> Result<bool, Fail> {
+fn is_head_served<H: Host>(rt: &H, input: &[u8], served: Served) -> Result<bool, Fail> {
     let limits = Limits::new(65_535, 128, 0, 1, 2, 1, 100_000)?;
-    let mut line = line_of(rt, Pieces::new(input, served.0, served.0))?;
+    let mut line = line_of(rt, Pieces::new(input, served.piece, served.piece))?;
     Ok(is_line_served(rt, &limits, &mut line, served)?)
 }
 
@@ -80,61 +102,45 @@ fn is_line_served<H: Host>(
     rt: &H,
     limits: &Limits,
     line: &mut Memory<Pieces>,
-    served: &Served,
+    served: Served,
 ) -> io::Result<bool> {
     let (report, pauses) = serve_by(rt, Way::Inline, limits, App::Hello, line)?;
-    let is_so = is_report(&report, served) && reads_of(line) == Some(served.4);
-    Ok(is_so && text_of(line) == served.1 && pauses == 0)
-}
-
-/// How many reads the line made.
-fn reads_of(line: &Memory<Pieces>) -> Option<u64> {
-    match line.stream() {
-        Some(pair) => Some(pair.reader.reads),
-        None => None,
-    }
-}
-
-/// How many bytes a head has. Sixteen pieces of 4,096 are 65,536 bytes.
-const LENGTHS: &[(usize, Served)] = &[
-    (65_534, (4_096, HELLO, Outcome::Finished, 1, 17, 3)),
-    (65_535, (4_096, HELLO, Outcome::Finished, 1, 17, 3)),
-    (65_535, (1, HELLO, Outcome::Finished, 1, 65_536, 3)),
-    (65_536, (4_096, TOO_LARGE, Outcome::Refused(431), 0, 16, 0)),
-    (70_000, (4_096, TOO_LARGE, Outcome::Refused(431), 0, 16, 0)),
-];
-
-fn is_length_served<H: Host>(rt: &H, (length, served): &(usize, Served)) -> Result<bool, Fail> {
-    let head = head_of(rt.alloc(), *length)?;
-    is_head_served(rt, &head, served)
+    let reads = line.stream().map(|pair| pair.reader.reads);
+    let is_so = is_report(&report, served) && reads == Some(served.reads);
+    Ok(is_so && text_of(line) == served.wanted && pauses == 0)
 }
 
 #[test]
 fn a_head_of_65535_bytes_is_served(rt: HostRuntime) -> Result<(), Fail> {
-    for row in LENGTHS {
-        let is_so = is_length_served(&rt, row)?;
-        assert!(rt; is_so, "{} bytes", row.0);
+    // Sixteen pieces of 4,096 are 65,536 bytes.
+    let rows = [
+        (65_534, hello(4_096, 17)),
+        (65_535, hello(4_096, 17)),
+        (65_535, hello(1, 65_536)),
+        (65_536, refused(TOO_LARGE, 431, 16)),
+        (70_000, refused(TOO_LARGE, 431, 16)),
+    ];
+    for (length, served) in rows {
+        let head = head_of(rt.alloc(), length)?;
+        assert!(rt; is_head_served(&rt, &head, served)?, "{length} bytes");
     }
     Ok(())
 }
 
-/// How many fields a head has beside `Host`. 127 lines of 12 bytes, with 27 bytes around them, come in one piece.
-const FIELDS: &[(usize, Served)] = &[
-    (126, (4_096, HELLO, Outcome::Finished, 1, 2, 3)),
-    (127, (4_096, HELLO, Outcome::Finished, 1, 2, 3)),
-    (128, (4_096, BAD_REQUEST, Outcome::Refused(400), 0, 1, 0)),
-];
-
-fn are_fields_served<H: Host>(rt: &H, (others, served): &(usize, Served)) -> Result<bool, Fail> {
-    let head = head_with(rt.alloc(), *others)?;
-    is_head_served(rt, &head, served)
-}
-
 #[test]
 fn a_head_of_128_fields_is_served(rt: HostRuntime) -> Result<(), Fail> {
-    for row in FIELDS {
-        let is_so = are_fields_served(&rt, row)?;
-        assert!(rt; is_so, "{} other fields", row.0);
+    // 127 lines of 12 bytes, with 27 bytes around them, come in one piece.
+    let rows = [
+        (126, hello(4_096, 2)),
+        (127, hello(4_096, 2)),
+        (128, refused(BAD_REQUEST, 400, 1)),
+    ];
+    for (others, served) in rows {
+        let head = head_with(rt.alloc(), others)?;
+        assert!(rt;
+            is_head_served(&rt, &head, served)?,
+            "{others} other fields"
+        );
     }
     Ok(())
 }
@@ -151,25 +157,19 @@ fn long_input(alloc: Global) -> Result<Vec<u8>, AllocError> {
     Ok(input)
 }
 
-/// With 27 bytes of the request, 65,535 letters come in 17 pieces.
-const READ_TO_A_HEAD: Served = (
-    1_048_576,
-    HELLO_AND_TOO_LARGE,
-    Outcome::Refused(431),
-    1,
-    17,
-    3,
-);
-
-fn is_long_input_served<H: Host>(rt: &H) -> Result<bool, Fail> {
-    let input = long_input(rt.alloc())?;
-    is_head_served(rt, &input, &READ_TO_A_HEAD)
-}
-
 #[test]
 fn of_1_mib_after_a_request_a_head_is_read(rt: HostRuntime) -> Result<(), Fail> {
-    let is_so = is_long_input_served(&rt)?;
-    assert!(rt; is_so);
+    let input = long_input(rt.alloc())?;
+    // With 27 bytes of the request, 65,535 letters come in 17 pieces.
+    let served = Served {
+        piece: 1_048_576,
+        wanted: HELLO_AND_TOO_LARGE,
+        outcome: Outcome::Refused(431),
+        exchanges: 1,
+        reads: 17,
+        more: 3,
+    };
+    assert!(rt; is_head_served(&rt, &input, served)?);
     Ok(())
 }
 
@@ -212,28 +212,16 @@ fn is_echoed<H: Host>(rt: &H, input: &[u8], piece: usize, wanted: &[u8]) -> io::
     is_served(rt, &Limits::usual(), App::Echo, pieces, wanted, end)
 }
 
-const PIECES: &[usize] = &[4_096, 1_000];
-
-/// The first piece size with which they are not answered so.
-fn wrong_piece<H: Host>(rt: &H, input: &[u8], wanted: &[u8]) -> io::Result<Option<usize>> {
-    for piece in PIECES {
-        if !is_echoed(rt, input, *piece, wanted)? {
-            return Ok(Some(*piece));
-        }
-    }
-    Ok(None)
-}
-
-fn wrong_piece_of_1_mib<H: Host>(rt: &H) -> io::Result<Option<usize>> {
-    let input = long_request(rt.alloc())?;
-    let wanted = long_answer(rt.alloc())?;
-    wrong_piece(rt, &input, &wanted)
-}
-
 #[test]
 fn a_body_of_1_mib_is_echoed(rt: HostRuntime) -> Result<(), Fail> {
-    let piece = wrong_piece_of_1_mib(&rt)?;
-    assert!(rt; piece.is_none(), "pieces of {}", piece.unwrap_or(0));
+    let input = long_request(rt.alloc())?;
+    let wanted = long_answer(rt.alloc())?;
+    for piece in [4_096, 1_000] {
+        assert!(rt;
+            is_echoed(&rt, &input, piece, &wanted)?,
+            "pieces of {piece}"
+        );
+    }
     Ok(())
 }
 
@@ -336,7 +324,7 @@ fn wanted(
 type Response = (usize, usize, &'static [u8], &'static [u8]);
 
 /// The body is one chunk, and before it comes its size in hexadecimal.
-const CHUNKED: &[Response] = &[
+const CHUNKED: [Response; 7] = [
     (
         0,
         2,
@@ -382,7 +370,7 @@ const CHUNKED: &[Response] = &[
 ];
 
 /// In HTTP/1.0 the body is sent as it is, and ends with the connection.
-const PLAIN: &[Response] = &[
+const PLAIN: [Response; 3] = [
     (128, 2, b"connection: close\r\n\r\n", b""),
     (1, 65_536, b"connection: close\r\n\r\n", b""),
     (1, 70_000, b"connection: close\r\n\r\n", b""),
@@ -394,29 +382,19 @@ fn is_written(alloc: Global, version: HttpVersion, row: &Response) -> Result<boo
     Ok(out.as_slice() == text.as_slice())
 }
 
-/// The first row that is written otherwise.
-fn first_unlike(
-    alloc: Global,
-    version: HttpVersion,
-    rows: &[Response],
-) -> Result<Option<usize>, Fail> {
-    for (place, row) in rows.iter().enumerate() {
-        if !is_written(alloc, version, row)? {
-            return Ok(Some(place));
-        }
-    }
-    Ok(None)
-}
-
 #[test]
 fn a_response_has_128_fields_and_many_bytes(rt: HostRuntime) -> Result<(), Fail> {
-    let chunked = first_unlike(rt.alloc(), HttpVersion::V11, CHUNKED)?;
-    let plain = first_unlike(rt.alloc(), HttpVersion::V10, PLAIN)?;
-    assert!(rt;
-        chunked.is_none() && plain.is_none(),
-        "row {} or row {} of HTTP/1.0",
-        chunked.unwrap_or(0),
-        plain.unwrap_or(0)
-    );
+    for (index, row) in CHUNKED.iter().enumerate() {
+        assert!(rt;
+            is_written(rt.alloc(), HttpVersion::V11, row)?,
+            "row {index}"
+        );
+    }
+    for (index, row) in PLAIN.iter().enumerate() {
+        assert!(rt;
+            is_written(rt.alloc(), HttpVersion::V10, row)?,
+            "row {index} of HTTP/1.0"
+        );
+    }
     Ok(())
 }

@@ -26,8 +26,10 @@ fn is_case<H: Host>(rt: &H, limits: &Limits, input: &[u8], case: &Case) -> io::R
 fn check<H: Abort + Host>(rt: &H, limits: &Limits, cases: &[Case]) -> Result<(), Fail> {
     for (place, case) in cases.iter().enumerate() {
         for (row, input) in case.0.iter().enumerate() {
-            let is_so = is_case(rt, limits, input, case)?;
-            assert!(rt; is_so, "case {place}, input {row}");
+            assert!(rt;
+                is_case(rt, limits, input, case)?,
+                "case {place}, input {row}"
+            );
         }
     }
     Ok(())
@@ -362,9 +364,8 @@ const ONE_FIELD: &[Case] = &[
 #[test]
 fn a_head_keeps_its_limits(rt: HostRuntime) -> Result<(), Fail> {
     let small = Limits::new(64, 64, 0, 1, 2, 1_000, 1_000_000)?;
-    let fits = is_head_served(&rt, &small, 64, &FITS)?;
-    let is_over = is_head_served(&rt, &small, 65, &IS_OVER)?;
-    assert!(rt; (fits, is_over) == (true, true));
+    assert!(rt; is_head_served(&rt, &small, 64, &FITS)?);
+    assert!(rt; is_head_served(&rt, &small, 65, &IS_OVER)?);
     check(&rt, &small, SMALL)?;
     let one_field = Limits::new(16_384, 1, 0, 1, 2, 1_000, 1_000_000)?;
     check(&rt, &one_field, ONE_FIELD)

@@ -1,5 +1,5 @@
 //! Writers that take little, fail, or would block.
-use asgi_conn::{Host, Outcome, Report};
+use asgi_conn::{Host, Outcome};
 use asgi_fakes::texts::{GET, GET_TAKING_TRAILERS, HELLO, TWO_REQUESTS};
 use asgi_fakes::{App, End, Heard, Pieces, Said, Sink, Step, Way, serve_by};
 use asgi_io::{Counts, Reads};
@@ -15,7 +15,7 @@ const NINE_BYTES: &[u8] = b"HTTP/1.1 ";
 type SinkLine = Wired<Pair<Pieces<'static>, Sink>>;
 
 /// Both runners meet each writer.
-const WAYS: &[Way] = &[Way::Inline, Way::Beside];
+const WAYS: [Way; 2] = [Way::Inline, Way::Beside];
 
 /// A writer that takes `most` bytes at a time.
 fn sink<H: AllocGlobal>(rt: &H, most: usize) -> Result<Sink, AllocError> {
@@ -52,11 +52,6 @@ fn taken_by(line: &SinkLine) -> &[u8] {
     }
 }
 
-// A call, of which nothing is known: a proof would go through the variants of each outcome that it knows as a part.
-fn end_of(report: &Report) -> End {
-    (report.outcome, report.exchanges, report.faults)
-}
-
 /// Whether the connection over the line ends like this, and its writer took this.
 fn is_line_served<H: Host>(
     rt: &H,
@@ -67,7 +62,8 @@ fn is_line_served<H: Host>(
     end: End,
 ) -> io::Result<bool> {
     let (report, _) = serve_by(rt, way, &Limits::usual(), app, line)?;
-    Ok(end_of(&report) == end && taken_by(line) == wanted)
+    let ended = (report.outcome, report.exchanges, report.faults);
+    Ok(ended == end && taken_by(line) == wanted)
 }
 
 /// Whether a connection to this writer, served by `Hello`, ends like this.
@@ -108,21 +104,18 @@ fn has_failed<H: Host>(
     Ok(is_so && line.failures() == failures)
 }
 
-/// Whether the answer goes out in part, three bytes for each of so many calls, if the one after them fails.
-fn is_cut_after<H: Host>(rt: &H, way: Way, calls: usize) -> io::Result<bool> {
-    let out = calls.saturating_mul(3);
-    let failing = (calls as u64).saturating_add(1);
-    let wanted = HELLO.get(..out).unwrap_or(b"");
-    is_failed_at(rt, way, failing, wanted, Outcome::WriteFailed(out), 1)
-}
-
 #[test]
 fn a_failed_write_says_how_far_it_came(rt: HostRuntime) -> Result<(), Fail> {
-    assert!(rt; HELLO.len() == 89);
+    assert_eq!(rt; HELLO.len(), 89);
     for way in WAYS {
-        for calls in 0..30 {
-            let is_so = is_cut_after(&rt, *way, calls)?;
-            assert!(rt; is_so, "after {calls} calls");
+        for failing in 1..=30usize {
+            let out = 3 * (failing - 1);
+            let wanted = HELLO.get(..out).unwrap_or(b"");
+            let outcome = Outcome::WriteFailed(out);
+            assert!(rt;
+                is_failed_at(&rt, way, failing as u64, wanted, outcome, 1)?,
+                "call {failing}"
+            );
         }
     }
     Ok(())
@@ -131,8 +124,7 @@ fn a_failed_write_says_how_far_it_came(rt: HostRuntime) -> Result<(), Fail> {
 #[test]
 fn a_fault_after_the_answer_is_not_met(rt: HostRuntime) -> Result<(), Fail> {
     for way in WAYS {
-        let is_so = is_failed_at(&rt, *way, 31, HELLO, Outcome::Finished, 0)?;
-        assert!(rt; is_so);
+        assert!(rt; is_failed_at(&rt, way, 31, HELLO, Outcome::Finished, 0)?);
     }
     Ok(())
 }
@@ -163,27 +155,16 @@ fn is_trailed_to<H: Host>(rt: &H, way: Way, out: usize, n: usize) -> io::Result<
     is_line_served(rt, way, TRAILS, &mut line, wanted, end)
 }
 
-/// After how many bytes of the text it is first otherwise.
-fn wrong_byte<H: Host>(
-    rt: &H,
-    way: Way,
-    (at, length): &(usize, usize),
-) -> io::Result<Option<usize>> {
-    for n in 0..*length {
-        if !is_trailed_to(rt, way, at.saturating_add(n), n)? {
-            return Ok(Some(n));
-        }
-    }
-    Ok(None)
-}
-
 #[test]
 fn trailers_go_out_as_far_as_they_are_taken(rt: HostRuntime) -> Result<(), Fail> {
-    assert!(rt; TRAILED.len() == 78);
+    assert_eq!(rt; TRAILED.len(), 78);
     for way in WAYS {
         for text in TEXTS {
-            let n = wrong_byte(&rt, *way, text)?;
-            assert!(rt; n.is_none(), "{} bytes after {}", n.unwrap_or(0), text.0);
+            let (at, length) = *text;
+            for n in 0..length {
+                let out = at.saturating_add(n);
+                assert!(rt; is_trailed_to(&rt, way, out, n)?, "{out} bytes");
+            }
         }
     }
     Ok(())
@@ -241,35 +222,19 @@ fn is_nine_of<H: Host>(rt: &H, way: Way, line: &mut SinkLine, row: &Nine) -> io:
 fn nine_bytes_and_then_a_fault(rt: HostRuntime) -> Result<(), Fail> {
     for way in WAYS {
         for (place, row) in NINE.iter().enumerate() {
-            let is_so = is_nine(&rt, *way, row)?;
-            assert!(rt; is_so, "row {place}");
+            assert!(rt; is_nine(&rt, way, row)?, "row {place}");
         }
     }
     Ok(())
 }
 
-/// Whether a connection with this input ends like this, with this taken, if the second call of a writer of so many bytes
-/// fails.
-fn is_second_failed<H: Host>(
-    rt: &H,
-    way: Way,
-    input: &'static [u8],
-    most: usize,
-    wanted: &[u8],
-    end: End,
-) -> io::Result<bool> {
-    let writer = failing_sink(rt, most, 2)?;
-    is_written(rt, way, input, writer, wanted, end)
-}
-
-const NO_HOST: &[u8] = b"GET / HTTP/1.1\r\n\r\n";
-
 #[test]
 fn a_refusal_that_is_not_written_is_a_failed_write(rt: HostRuntime) -> Result<(), Fail> {
+    let input = b"GET / HTTP/1.1\r\n\r\n";
     let end = (Outcome::WriteFailed(9), 0, 0);
     for way in WAYS {
-        let is_so = is_second_failed(&rt, *way, NO_HOST, 9, NINE_BYTES, end)?;
-        assert!(rt; is_so);
+        let writer = failing_sink(&rt, 9, 2)?;
+        assert!(rt; is_written(&rt, way, input, writer, NINE_BYTES, end)?);
     }
     Ok(())
 }
@@ -278,8 +243,8 @@ fn a_refusal_that_is_not_written_is_a_failed_write(rt: HostRuntime) -> Result<()
 fn the_second_answer_may_fail(rt: HostRuntime) -> Result<(), Fail> {
     let end = (Outcome::WriteFailed(0), 2, 0);
     for way in WAYS {
-        let is_so = is_second_failed(&rt, *way, TWO_REQUESTS, 89, HELLO, end)?;
-        assert!(rt; is_so);
+        let writer = failing_sink(&rt, 89, 2)?;
+        assert!(rt; is_written(&rt, way, TWO_REQUESTS, writer, HELLO, end)?);
     }
     Ok(())
 }
@@ -288,27 +253,16 @@ fn the_second_answer_may_fail(rt: HostRuntime) -> Result<(), Fail> {
 fn takes_nothing<H: Host>(rt: &H, way: Way, line: &mut SinkLine) -> io::Result<bool> {
     let end = (Outcome::WriteFailed(0), 1, 0);
     let is_so = is_line_served(rt, way, App::Hello, line, b"", end)?;
-    Ok(is_so && calls_of(line) == 1)
-}
-
-/// How often the writer of the line was called.
-fn calls_of(line: &SinkLine) -> u64 {
-    match line.stream() {
-        Some(pair) => pair.writer.calls,
-        None => 0,
-    }
-}
-
-fn has_taken_nothing<H: Host>(rt: &H, way: Way) -> io::Result<bool> {
-    let mut line = line_to(rt, GET, sink(rt, 0)?);
-    takes_nothing(rt, way, &mut line)
+    let calls = line.stream().map(|pair| pair.writer.calls);
+    Ok(is_so && calls == Some(1))
 }
 
 #[test]
 fn a_writer_that_takes_nothing_has_failed(rt: HostRuntime) -> Result<(), Fail> {
     for way in WAYS {
-        let is_so = has_taken_nothing(&rt, *way)?;
-        assert!(rt; is_so);
+        let mut line = line_to(&rt, GET, sink(&rt, 0)?);
+        let is_so = takes_nothing(&rt, way, &mut line);
+        assert!(rt; is_so?);
     }
     Ok(())
 }
@@ -328,24 +282,13 @@ fn is_retried<H: Host>(
     is_written(rt, way, GET, writer, wanted, (outcome, 1, 0))
 }
 
-const FAULTS: &[ErrorKind] = &[ErrorKind::WouldBlock, ErrorKind::Interrupted];
-
-/// How many faults there are, what is taken, and the outcome.
-type Retried = (u64, &'static [u8], Outcome);
-
-const RETRIED: &[Retried] = &[
-    (1_000, HELLO, Outcome::Finished),
-    (1_001, b"", Outcome::WriteFailed(0)),
-];
-
 #[test]
 fn a_thousand_retries_and_no_more(rt: HostRuntime) -> Result<(), Fail> {
+    let failed = Outcome::WriteFailed(0);
     for way in WAYS {
-        for fault in FAULTS {
-            for (faults, wanted, outcome) in RETRIED {
-                let is_so = is_retried(&rt, *way, *fault, *faults, wanted, *outcome)?;
-                assert!(rt; is_so, "{faults} faults");
-            }
+        for fault in [ErrorKind::WouldBlock, ErrorKind::Interrupted] {
+            assert!(rt; is_retried(&rt, way, fault, 1_000, HELLO, Outcome::Finished)?);
+            assert!(rt; is_retried(&rt, way, fault, 1_001, b"", failed)?);
         }
     }
     Ok(())
@@ -365,18 +308,12 @@ fn is_retried_again<H: Host>(
     is_written(rt, way, GET, writer, wanted, (outcome, 1, 0))
 }
 
-const RETRIED_AGAIN: &[Retried] = &[
-    (1_000, HELLO, Outcome::Finished),
-    (1_001, NINE_BYTES, Outcome::WriteFailed(9)),
-];
-
 #[test]
 fn each_byte_that_goes_out_ends_a_row_of_retries(rt: HostRuntime) -> Result<(), Fail> {
+    let failed = Outcome::WriteFailed(9);
     for way in WAYS {
-        for (again, wanted, outcome) in RETRIED_AGAIN {
-            let is_so = is_retried_again(&rt, *way, *again, wanted, *outcome)?;
-            assert!(rt; is_so, "{again} faults");
-        }
+        assert!(rt; is_retried_again(&rt, way, 1_000, HELLO, Outcome::Finished)?);
+        assert!(rt; is_retried_again(&rt, way, 1_001, NINE_BYTES, failed)?);
     }
     Ok(())
 }

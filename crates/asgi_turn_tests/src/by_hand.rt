@@ -9,12 +9,11 @@ use asgi_fakes::texts::{
     BAD_REQUEST, CONTINUE, ECHO_HEAD, GET, GET_TAKING_TRAILERS, HELLO, HELLO_AND_CLOSE, LAST_CHUNK,
     PLAIN_HEAD, TWO_REQUESTS,
 };
-use asgi_fakes::{End, Memory, Pieces, Said, Sends, Way, line_of, serve, text_of};
+use asgi_fakes::{Memory, Pieces, Said, Sends, Way, line_of, serve, text_of};
 use asgi_types::{Limits, State};
 use futures::task::{Doorbell, Solo};
 use std::alloc::Global;
 use std::io::{self, ErrorKind};
-use std::process::Abort;
 use std::test::Fail;
 
 type Texts = &'static [&'static [u8]];
@@ -27,13 +26,6 @@ struct Taken {
     idle: u64,
     /// The turn after the report gave it again.
     is_again: bool,
-}
-
-fn is_over(step: Step, report: Report) -> bool {
-    match step {
-        Step::Over(other) => other == report,
-        _ => false,
-    }
 }
 
 /// Takes at most this many turns, and one more after the report.
@@ -61,7 +53,7 @@ fn take_turns<A: Application, L: Line, X: Drop, U: Runner<A::Task, Exchange = X>
             Step::Over(report) => {
                 let again = connection.turn(setting, calls, line, runner, pause);
                 taken.report = Some(report);
-                taken.is_again = is_over(again, report);
+                taken.is_again = again == Step::Over(report);
                 return taken;
             }
         }
@@ -278,33 +270,17 @@ fn is_front(bytes: &[u8], parts: Texts, is_whole: bool) -> bool {
 /// Whether these turns, to the end, made this of the row, and the loop the same report with as many pauses.
 fn is_so(taken: Taken, pauses: u64, row: &Row, looped: (Report, u64)) -> bool {
     let (report, paused) = looped;
-    let same = has(taken, report) && (taken.is_again, pauses) == (true, paused);
-    let turns = taken.moved.saturating_add(taken.idle);
-    let ended = end_of(&report) == end_of_row(row);
-    ended && same && (taken.idle, turns) == (pauses, report.turns)
+    let ended = (report.outcome, report.exchanges, report.faults) == (row.4, row.5, 0);
+    let same = taken.report == Some(report) && taken.is_again && pauses == paused;
+    ended && same && taken.idle == pauses && taken.moved.saturating_add(taken.idle) == report.turns
 }
 
-fn has(taken: Taken, report: Report) -> bool {
-    taken.report == Some(report)
-}
-
-// Calls, of which nothing is known: a proof would go through the variants of each outcome that it knows as a part.
-fn end_of(report: &Report) -> End {
-    (report.outcome, report.exchanges, report.faults)
-}
-
-fn end_of_row(row: &Row) -> End {
-    (row.4, row.5, 0)
-}
-
-/// What the loop makes of the row.
-fn looped<H: Host, T: AppTask + Send + 'static, A: Application<Task = T>>(
+fn looped_over<H: Host, T: AppTask + Send + 'static, A: Application<Task = T>>(
     rt: &H,
     app: &A,
-    row: &Row,
+    line: &mut Memory<Pieces>,
 ) -> io::Result<(Report, u64)> {
-    let mut line = line_of(rt, pieces_of(row))?;
-    serve(rt, Way::Inline, &Limits::usual(), app, &mut line)
+    serve(rt, Way::Inline, &Limits::usual(), app, line)
 }
 
 fn taken_over<H: Host, A: Application>(
@@ -331,72 +307,49 @@ fn dropped_over<H: Host, A: Application>(
     Ok(went_on && is_front(text_of(line), row.3, false))
 }
 
-fn is_taken<H: Host, A: Application>(
-    rt: &H,
-    app: &A,
-    row: &Row,
-    looped: (Report, u64),
-) -> io::Result<bool> {
-    let mut line = line_of(rt, pieces_of(row))?;
-    taken_over(rt, app, &mut line, row, looped)
-}
-
-fn is_dropped<H: Host, A: Application>(rt: &H, app: &A, row: &Row, most: u64) -> io::Result<bool> {
-    let mut line = line_of(rt, pieces_of(row))?;
-    dropped_over(rt, app, &mut line, row, most)
-}
-
-/// Whether the row is so, dropped after each of these turns.
-fn are_dropped<H: Host, A: Application>(
-    rt: &H,
-    app: &A,
-    row: &Row,
-    turns: u64,
-) -> io::Result<bool> {
-    for most in 0..turns {
-        if !is_dropped(rt, app, row, most)? {
-            return Ok(false);
-        }
-    }
-    Ok(true)
-}
-
 /// Whether the row is so, taken to its end, and dropped after each of its turns.
 fn is_row<H: Host, T: AppTask + Send + 'static, A: Application<Task = T>>(
     rt: &H,
     app: &A,
     row: &Row,
-) -> io::Result<bool> {
-    let looped = looped(rt, app, row)?;
-    let is_so = is_taken(rt, app, row, looped)?;
-    Ok(is_so && are_dropped(rt, app, row, looped.0.turns)?)
+) -> Result<bool, Fail> {
+    let mut line = line_of(rt, pieces_of(row))?;
+    let looped = looped_over(rt, app, &mut line)?;
+    let mut line = line_of(rt, pieces_of(row))?;
+    let mut holds = taken_over(rt, app, &mut line, row, looped)?;
+    for most in 0..looped.0.turns {
+        let mut line = line_of(rt, pieces_of(row))?;
+        holds = dropped_over(rt, app, &mut line, row, most)? && holds;
+    }
+    Ok(holds)
 }
 
-/// Whether each row is so.
-fn check<H: Abort + Host, T: AppTask + Send + 'static, A: Application<Task = T>>(
-    rt: &H,
-    app: &A,
-    rows: &[Row],
-) -> Result<(), Fail> {
-    for (place, row) in rows.iter().enumerate() {
-        let is_so = is_row(rt, app, row)?;
-        assert!(rt; is_so, "row {place}");
+#[test]
+fn turns_by_hand_greet_as_the_loop_does(rt: HostRuntime) -> Result<(), Fail> {
+    for (place, row) in GREETINGS.iter().enumerate() {
+        assert!(rt; is_row(&rt, &Hello, row)?, "row {place}");
     }
     Ok(())
 }
 
 #[test]
-fn turns_by_hand_greet_as_the_loop_does(rt: HostRuntime) -> Result<(), Fail> {
-    check(&rt, &Hello, GREETINGS)
-}
-
-#[test]
 fn turns_by_hand_echo_as_the_loop_does(rt: HostRuntime) -> Result<(), Fail> {
-    check(&rt, &Echo, ECHOES)
+    for (place, row) in ECHOES.iter().enumerate() {
+        assert!(rt; is_row(&rt, &Echo, row)?, "row {place}");
+    }
+    Ok(())
 }
 
 #[test]
 fn turns_by_hand_send_trailers_as_the_loop_does(rt: HostRuntime) -> Result<(), Fail> {
-    check(&rt, &TRAILS, TRAILERS)?;
-    check(&rt, &UNTRAILED, NO_TRAILERS)
+    for (place, row) in TRAILERS.iter().enumerate() {
+        assert!(rt; is_row(&rt, &TRAILS, row)?, "row {place}");
+    }
+    for (place, row) in NO_TRAILERS.iter().enumerate() {
+        assert!(rt;
+            is_row(&rt, &UNTRAILED, row)?,
+            "row {place} without trailers"
+        );
+    }
+    Ok(())
 }
