@@ -14,7 +14,7 @@ use Rattle.asgi_exchange.specs.{Calls.IsViewOf, Calls.IsExchangeOf, Views.ConnVi
 use Rattle.asgi_run.specs.{AnyHalf.PreservesOn, Limits.IsAtLimit, Limits.IsSettled}
 use Rattle.asgi_conn.specs.{declared.connection.Connection.Connection, Serving.Serves, Standing.InExchange, Standing.IsAt}
 use Rattle.asgi_conn.specs.Standing.{IsCounted, HasRoom, Stands, IsReportOf, http_scene, session_scene}
-use Rattle.asgi_conn.specs.private.Loop.{HasBegun, IsNext, IsGoing, IsBetween, HasEnded, next_step_of}
+use Rattle.asgi_conn.specs.private.Loop.{HasBegun, IsNext, IsGoing, IsBetween, IsOpen, HasEnded, next_step_of}
 use Rattle.asgi_request.proofs.StandardLemmas.{all_results}
 use Rattle.asgi_conn.proofs.{BetweenLemmas.rests_on, BetweenLemmas.ends_fed_short, LeaveLemmas.left_at, ServeLemmas.rested, SessionLeaveLemmas.ends_after, SessionServeLemmas.ends_connection}
 use Rattle.asgi_exchange.proofs.HttpExchangeLemmas.{in_words}
@@ -54,6 +54,12 @@ next_room (place.Http half exchange) tally room next = (room, λ over. absurd (n
 next_room (place.Ended outcome) tally room next = tt
 next_room _ tally room next = room
 
+-- what is not followed by a request needs no room for one
+room_open : {X : Type 0} (later : Place X) (tally : Tally) → tally.exchanges ≤ tally.turns.turns → IsOpen later → HasRoom later tally
+room_open (place.Http half exchange) tally room open = (room, λ over. absurd (open over))
+room_open (place.Ended outcome) tally room open = tt
+room_open _ tally room open = room
+
 module _ {X : Type 0} {limits : Limits} {before pauses : ℕ} where
   -- one more turn was taken
   pub counted_more : {at later : Place X} {old new : Tally} {after : ℕ} (turn : Turn) → IsCounted limits before pauses at old → IsGoing at → IsGoing later
@@ -73,6 +79,13 @@ module _ {X : Type 0} {limits : Limits} {before pauses : ℕ} where
   counted_at {new = new} c same at_limit room =
       let more : new.turns.turn_limit ≤ 2 ^ 48 = rw same c.within in
       record { turn_limit = rw same c.turn_limit; idle_limit = rw same c.idle_limit; turned = c.turned; counts = rw same c.counts; at_limit = λ is. rw same (at_limit is); within = more; room = room }
+
+  -- a turn moved nothing, and is not counted
+  pub counted_rest : {at : Place X} (later : Place X) (old new : Tally) → IsCounted limits before pauses at old → IsGoing at → IsGoing later → new ≡ old → IsOpen later
+      → IsCounted limits before pauses later new
+  counted_rest {at} later old new c going goes same open =
+      let never : later ≡ place.Ended Idle → ⊥ = λ is. subst IsGoing is goes in
+      rw same (counted_at c refl (λ is. absurd (never is)) (room_open later old (room_of at old going c.room) open))
 
   -- the reader gave its next result
   counted_next : {at : Place X} (later : Place X) (old new : Tally) → IsCounted limits before pauses at old → IsBetween at → new ≡ old → IsNext later old.turns

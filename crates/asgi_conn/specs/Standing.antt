@@ -33,7 +33,7 @@ use Rattle.asgi_conversation.specs.SoFar.{Between}
 use Rattle.asgi_apps.specs.Promises.{Promise}
 use Rattle.asgi_run.specs.declared.exchange_half.Half as any_half
 use Rattle.asgi_run.specs.declared.runner.AppSide.{AppSide}
-use Rattle.asgi_run.specs.Limits.{IsAtLimit}
+use Rattle.asgi_run.specs.Limits.{IsAtLimit, IsSettled}
 use Rattle.asgi_run.specs.Lines.{Transferred}
 use Rattle.asgi_run.specs.Running.{OfEnd, IsOpened}
 use Rattle.asgi_halves.specs.declared.stage.Stage.TheVariants.{Over}
@@ -41,6 +41,7 @@ use Rattle.asgi_halves.specs.declared.wire.Wire.{Wire}
 use Rattle.asgi_halves.specs.contracts.impls.HttpHalfHalf.TheImpl as http_half
 use Rattle.asgi_halves.specs.contracts.impls.WebSocketHalfHalf.TheImpl as session_half
 use Rattle.asgi_halves.specs.HttpHalf.{HttpScene}
+use Rattle.asgi_halves.specs.Kinds.{following_of}
 use Rattle.asgi_halves.specs.ReadAhead.{ReadsAhead}
 use Rattle.asgi_halves.specs.Traffic.{HasCarried, failures_in}
 use Rattle.asgi_halves.specs.WebSocketHalf.{SessionScene}
@@ -182,6 +183,13 @@ TakesTurn takes was (place.Between wire) turn now (place.Between later) = (answe
 TakesTurn takes was (place.Http half exchange) turn now (place.Http later after) = takes exchange turn after
 TakesTurn takes was (place.Session half exchange) turn now (place.Session later after) = takes exchange turn after
 TakesTurn takes was at turn now then = ⊥
+
+-- there is an exchange that is over, and not as idle: it is ended before the next turn
+abbrev pub IsToEnd : {X : Type 0} → Place X → Type 0
+IsToEnd (place.Between wire) = ⊥
+IsToEnd (place.Http half exchange) = IsSettled (following_of half.stage)
+IsToEnd (place.Session half exchange) = IsSettled (following_of half.stage)
+IsToEnd (place.Ended outcome) = ⊥
 
 -- this holds of the report, if there is one
 abbrev pub IfOver : Step → (Report → Type 0) → Type 0

@@ -123,7 +123,7 @@ impl<X> Connection<X> {
     }
 
     /// The report of a connection that has ended.
-    fn report(&self) -> Report
+    pub(crate) fn report(&self) -> Report
         requires { HasEnded (place_of self.now) }
         ensures { IsReportOf self.now result }
     {
@@ -153,7 +153,7 @@ impl<X> Connection<X> {
     // ---- what takes no turn
 
     /// Goes to where a turn is due, or to the end.
-    fn go_on<A: Application, L: Line, U: Runner<A::Task, Exchange = X>>(
+    pub(crate) fn go_on<A: Application, L: Line, U: Runner<A::Task, Exchange = X>>(
         &mut self,
         setting: &Setting<'_>,
         calls: &mut Calls<'_, A>,
@@ -189,7 +189,7 @@ impl<X> Connection<X> {
 
     /// Takes the turn that is due, and returns what it did. None once the connection has ended, also for want
     /// of memory in this turn, which is not counted then.
-    fn move_on<A: Application, L: Line, U: Runner<A::Task, Exchange = X>>(
+    pub(crate) fn move_on<A: Application, L: Line, U: Runner<A::Task, Exchange = X>>(
         &mut self,
         setting: &Setting<'_>,
         line: &mut L,

@@ -5,6 +5,7 @@ mod between;
 mod closing;
 mod connection;
 pub mod laws;
+mod looking;
 mod opening;
 mod place;
 mod setting;

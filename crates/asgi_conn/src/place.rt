@@ -2,7 +2,8 @@
 ghost use Rattle.std.specs.Prelude.{◌≡◌, Some, None, IsTrue, IsFalse};
 ghost use Rattle.asgi_conn.specs.Places as place;
 ghost use Rattle.asgi_conn.specs.Places.{place_of};
-ghost use Rattle.asgi_conn.specs.private.Loop.{IsBetween, IsFree, IsGoing, IsOver, IsDueOrBetween, HasEnded};
+ghost use Rattle.asgi_conn.specs.Standing.{IsToEnd};
+ghost use Rattle.asgi_conn.specs.private.Loop.{IsBetween, IsFree, IsGoing, IsOpen, IsOver, IsDueOrBetween, HasEnded};
 
 use crate::connection::Connection;
 use asgi_conversation::Outcome;
@@ -43,6 +44,20 @@ impl<X> Connection<X> {
             Some(_) => match &self.session {
                 None => !self.tally.turns.is_over() && !self.half.is_settled(),
                 Some(session) => !self.tally.turns.is_over() && !session.is_settled(),
+            },
+        }
+    }
+
+    /// Whether there is an exchange that is over, and is to be ended before the next turn.
+    pub(crate) fn is_to_end(&self) -> bool
+        ensures yes { IsTrue result → IsToEnd (place_of self.now) }
+        ensures no { IsFalse result → IsGoing (place_of self.now) → IsOpen (place_of self.now) }
+    {
+        match &self.exchange {
+            None => false,
+            Some(_) => match &self.session {
+                None => self.half.is_settled(),
+                Some(session) => session.is_settled(),
             },
         }
     }

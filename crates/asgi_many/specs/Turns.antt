@@ -1,6 +1,8 @@
 -- What a turn of a named seat did.
 use Rattle.std.specs.Prelude.{◌≡◌, ⊤, List, Option, Some, None, IsSomeAnd, slice_set}
 use Rattle.asgi_conn.specs.Standing.{TakesOne}
+use Rattle.asgi_many.specs.declared.seat.Cause.{Cause}
+use Rattle.asgi_many.specs.declared.seat.Cause.TheVariants.{Wake, Tick}
 use Rattle.asgi_many.specs.declared.seat.Ended.{Ended}
 use Rattle.asgi_many.specs.declared.seat.Seat.{Seat}
 use Rattle.asgi_many.specs.declared.table.Turned.{Turned}
@@ -20,10 +22,15 @@ IfOver Moved P = ⊤
 IfOver Idle P = ⊤
 IfOver (Over end) P = P end
 
--- From what the seat had to what it has: nobody sits there; or the connection took one turn, and counted it; or it has ended, and the
--- seat is free.
-abbrev pub TurnsSeat : {X L : Type 0} → Turned L → Option (Seat X L) → Option (Seat X L) → Type 0
-TurnsSeat NoOne old new = (old ≡ None) × (new ≡ None)
-TurnsSeat Moved old new = IsSomeAnd old (λ was. IsSomeAnd new (λ is. TakesOne was.connection is.connection))
-TurnsSeat Idle old new = IsSomeAnd old (λ was. IsSomeAnd new (λ is. TakesOne was.connection is.connection))
-TurnsSeat (Over end) old new = IsSomeAnd old (λ was. was.number ≡ end.number) × (new ≡ None)
+-- A turn in which nothing moved is counted at a tick. After a wake-up neither it nor a pause is.
+abbrev pub CountsIdle : {X L : Type 0} → Cause → Seat X L → Seat X L → Type 0
+CountsIdle Tick was is = TakesOne was.connection is.connection
+CountsIdle Wake was is = (is.connection.tally.turns ≡ was.connection.tally.turns) × (is.pause.count ≡ was.pause.count)
+
+-- From what the seat had to what it has: nobody sits there; or the connection took one turn, which is counted if something moved, or
+-- at a tick; or it has ended, and the seat is free.
+abbrev pub TurnsSeat : {X L : Type 0} → Cause → Turned L → Option (Seat X L) → Option (Seat X L) → Type 0
+TurnsSeat cause NoOne old new = (old ≡ None) × (new ≡ None)
+TurnsSeat cause Moved old new = IsSomeAnd old (λ was. IsSomeAnd new (λ is. TakesOne was.connection is.connection))
+TurnsSeat cause Idle old new = IsSomeAnd old (λ was. IsSomeAnd new (λ is. CountsIdle cause was is))
+TurnsSeat cause (Over end) old new = IsSomeAnd old (λ was. was.number ≡ end.number) × (new ≡ None)

@@ -13,6 +13,6 @@ mod table;
 pub use asgi_conn::{Inline, Report, Runner};
 pub use asgi_desk::Teller;
 pub use reactor::{Next, Reactor, Ready};
-pub use seat::{Departure, Ended, Newcomer};
+pub use seat::{Cause, Departure, Ended, Newcomer};
 pub use serving::{Served, serve_many};
 pub use table::{Table, Turned};

@@ -19,8 +19,10 @@ pub enum Next<L> {
 /// What may be done next.
 #[derive(Clone, Copy, Debug, PartialEq, Eq)]
 pub enum Ready {
-    /// The connection in this seat may move something, or it is time to count that it does not.
+    /// The connection in this seat may move something.
     Seat(usize),
+    /// A tick has passed for the connection in this seat. If it moves nothing, that is counted.
+    Tick(usize),
     /// A connection may have arrived.
     Arrivals,
 }
@@ -50,8 +52,9 @@ pub trait Reactor {
     fn again(&mut self, at: usize)
         ensures told { answers self.new ≡ answers self.old };
 
-    /// The connection in this seat moved nothing in its turn: what was written for it is not to wait any longer.
-    fn rests(&mut self, at: usize, line: &Self::L)
+    /// The connection in this seat moved nothing in its turn: what was written for it is not to wait any longer. If it is in an
+    /// exchange, its task may wait for something else than its line.
+    fn rests(&mut self, at: usize, line: &Self::L, is_in_exchange: bool)
         ensures told { answers self.new ≡ answers self.old };
 
     /// The connection in this seat has ended, and the seat is free. Its line is closed once what was written has left.

@@ -2,9 +2,10 @@
 ghost use Rattle.std.specs.Prelude.{◌≡◌};
 ghost use Rattle.asgi_types.specs.declared.limits.Limits.{Limits};
 ghost use Rattle.asgi_conn.specs.Serving.{Serves};
-ghost use Rattle.asgi_conn.specs.Standing.{GoesOn, IfOver, IsReportOf, TakesOne};
+ghost use Rattle.asgi_conn.specs.Standing.{IfOver, IsReportOf, TakesOne};
 ghost use Rattle.asgi_many.specs.declared.seat.Newcomer.{Newcomer};
 ghost use Rattle.asgi_many.specs.Standing.{IsAt};
+ghost use Rattle.asgi_many.specs.Turns.{CountsIdle};
 
 use asgi_apps::{Application, Calls};
 use asgi_conn::{Connection, Report, Runner, Setting, Step};
@@ -12,6 +13,15 @@ use asgi_io::{CountingPause, Pause};
 use asgi_types::{Limits, Peer, State};
 use asgi_ws::Line;
 use std::alloc::Global;
+
+/// Why a seat is taken up.
+#[derive(Clone, Copy, Debug, PartialEq, Eq)]
+pub enum Cause {
+    /// Something may have come for it. If nothing moves, nothing is counted.
+    Wake,
+    /// A tick has passed. If nothing moves, an idle turn is counted.
+    Tick,
+}
 
 /// A connection that comes: its line, and its client and server if they are known.
 #[derive(Drop)]
@@ -93,6 +103,7 @@ impl<X, L: Line> Seat<X, L> {
     /// Takes a turn of the connection that sits here.
     pub(crate) fn turn<A: Application, U: Runner<A::Task, Exchange = X>>(
         &mut self,
+        cause: Cause,
         state: &State,
         calls: &mut Calls<'_, A>,
         runner: &mut U,
@@ -110,7 +121,8 @@ impl<X, L: Line> Seat<X, L> {
             limits state.now one self.old
             → Serves (A.answers calls.old.app.now) limits one.client one.server state.now (L.state one.line) (L.state self.new.line) 0 self.new.pause.count report) }
         ensures ended { IfOver result (λ report. IsReportOf self.new.connection report) }
-        ensures takes { GoesOn result → TakesOne self.old.connection self.new.connection }
+        ensures moved { result ≡ Step.Moved → TakesOne self.old.connection self.new.connection }
+        ensures idle { result ≡ Step.Idle → CountsIdle cause self.old self.new }
         ensures number { self.new.number ≡ self.old.number }
         ensures same { calls.new.app.now ≡ calls.old.app.now }
     {
@@ -119,8 +131,11 @@ impl<X, L: Line> Seat<X, L> {
             server: &self.server,
             state,
         };
-        self.connection
-            .turn(&setting, calls, &mut self.line, runner, &mut self.pause)
+        let (line, pause) = (&mut self.line, &mut self.pause);
+        match cause {
+            Cause::Wake => self.connection.look(&setting, calls, line, runner, pause),
+            Cause::Tick => self.connection.turn(&setting, calls, line, runner, pause),
+        }
     }
 
     /// What is left of a connection that has ended with this report.

@@ -2,13 +2,14 @@
 ghost use Rattle.std.specs.Prelude.{◌≡◌, ◌≢◌, ◌+◌, ◌-◌, ◌^◌, ◌<◌, ◌≤◌, ◌⊎◌, ◌↔◌, ◌++◌, ◌∷◌, [], ℕ, List, Option, Some, None, IsTrue, IsFalse, IfOk, IfErr, IsErr, IsSomeAnd, slice_get, option_map};
 ghost use Rattle.asgi_types.specs.declared.state.StateValue.{StateValue};
 ghost use Rattle.slab.specs.Slab.{get, slab_len};
-ghost use Rattle.asgi_conn.specs.Standing.{IsReportOf};
+ghost use Rattle.asgi_conn.specs.Places.{place_of};
+ghost use Rattle.asgi_conn.specs.Standing.{IsReportOf, begun_at};
 ghost use Rattle.asgi_many.specs.declared.seat.Ended.{Ended};
 ghost use Rattle.asgi_many.specs.declared.seat.Newcomer.{Newcomer};
 ghost use Rattle.asgi_many.specs.Standing.{Holds, IsEmpty, IsFull, IsServed};
 ghost use Rattle.asgi_many.specs.Turns.{IfOver, TurnsSeat, ended_after};
 
-use crate::seat::{Ended, Newcomer, Seat};
+use crate::seat::{Cause, Ended, Newcomer, Seat};
 use crate::table::{Table, Turned};
 use asgi_apps::{Application, Calls};
 use asgi_conn::{Report, Runner, Step};
@@ -86,6 +87,16 @@ impl<X, L: Line> Table<X, L> {
         Some(&seat.line)
     }
 
+    /// Whether the connection in that seat is in an exchange, if there is one.
+    pub fn is_in_exchange(&self, at: usize) -> bool
+        ensures { IsTrue result ↔ IsSomeAnd (get self.now.seats at) (λ seat. begun_at (place_of seat.connection) ≡ 1) }
+    {
+        match self.seats.get(at) {
+            Some(seat) => seat.connection.is_in_exchange(),
+            None => false,
+        }
+    }
+
     /// The seat that the next newcomer gets, if there is one for it. Each seat has a number below `bound`.
     pub fn next_seat(&self) -> usize
         ensures { result ≡ self.now.seats.vacant_key }
@@ -129,11 +140,12 @@ impl<X, L: Line> Table<X, L> {
     }
 
     /// Takes a turn of the connection in that seat, if there is one. Seats may be named in any order, also those that are
-    /// free or not there. If nothing moves, the pause of the seat is counted. Once the connection has ended its seat is
-    /// free, and what is left of it is handed over.
+    /// free or not there. If nothing moves, an idle turn and the pause of the seat are counted at a tick, and nothing after a
+    /// wake-up. Once the connection has ended its seat is free, and what is left of it is handed over.
     pub fn turn<A: Application, U: Runner<A::Task, Exchange = X>>(
         &mut self,
         at: usize,
+        cause: Cause,
         state: &State,
         calls: &mut Calls<'_, A>,
         runner: &mut U,
@@ -148,7 +160,7 @@ impl<X, L: Line> Table<X, L> {
             → Holds A.Task.answers U.Pipes.Conn.ConnEnd U.Pipes.App.AppEnd U.conn U.began (A.answers calls.old.app.now) L.state state.now came self.old ended
             → (slice_get ended end.number ≡ Some None)
             × (one : Newcomer L) × (slice_get came end.number ≡ Some one) × IsServed (A.answers calls.old.app.now) L.state self.old.limits state.now one end) }
-        ensures turned { TurnsSeat result (get self.old.seats at) (get self.new.seats at) }
+        ensures turned { TurnsSeat cause result (get self.old.seats at) (get self.new.seats at) }
         ensures others { (other : ℕ) → other ≢ at → get self.new.seats other ≡ get self.old.seats other }
         ensures limits { (self.new.limits ≡ self.old.limits) × (self.new.places ≡ self.old.places) }
         ensures same { calls.new.app.now ≡ calls.old.app.now }
@@ -156,7 +168,7 @@ impl<X, L: Line> Table<X, L> {
         let Some(seat) = self.seats.get_mut(at) else {
             return Turned::NoOne;
         };
-        match seat.turn(state, calls, runner) {
+        match seat.turn(cause, state, calls, runner) {
             Step::Moved => Turned::Moved,
             Step::Idle => Turned::Idle,
             Step::Over(report) => Turned::Over(self.free(at, report)),

@@ -6,7 +6,7 @@ ghost use Rattle.asgi_many.specs.Serving.{Adds, Going, ServesMany, Sits, departu
 
 use crate::intake::Intake;
 use crate::reactor::{Next, Reactor, Ready};
-use crate::seat::{Departure, Ended};
+use crate::seat::{Cause, Departure, Ended};
 use crate::table::{Table, Turned};
 use asgi_apps::{Application, Calls};
 use asgi_conn::Runner;
@@ -95,7 +95,13 @@ fn step<
     match reactor.wait() {
         Ready::Arrivals => intake.told_of_arrivals(),
         Ready::Seat(at) => {
-            go_on(table, at, state, calls, reactor, runner, teller);
+            let cause = Cause::Wake;
+            go_on(table, at, cause, state, calls, reactor, runner, teller);
+            intake
+        }
+        Ready::Tick(at) => {
+            let cause = Cause::Tick;
+            go_on(table, at, cause, state, calls, reactor, runner, teller);
             intake
         }
     }
@@ -136,6 +142,7 @@ fn go_on<
 >(
     table: &mut Table<X, N::L>,
     at: usize,
+    cause: Cause,
     state: &State,
     calls: &mut Calls<'_, A>,
     reactor: &mut N,
@@ -158,7 +165,7 @@ fn go_on<
     if !reactor.may_go_on(at, line) {
         return;
     }
-    match table.turn(at, state, calls, runner) {
+    match table.turn(at, cause, state, calls, runner) {
         Turned::NoOne => {}
         Turned::Moved => reactor.again(at),
         Turned::Idle => rests(table, at, reactor),
@@ -171,7 +178,7 @@ fn rests<X, N: Reactor>(table: &Table<X, N::L>, at: usize, reactor: &mut N)
     ensures { N.answers reactor.new ≡ N.answers reactor.old }
 {
     if let Some(line) = table.line(at) {
-        reactor.rests(at, line);
+        reactor.rests(at, line, table.is_in_exchange(at));
     }
 }
 

@@ -20,8 +20,12 @@ pub(crate) struct Place {
     pub(crate) usage: Use,
     /// It waits in the queue.
     pub(crate) is_queued: bool,
-    /// It was taken up since the last tick.
-    pub(crate) was_named: bool,
+    /// Its connection has moved something since the last tick.
+    pub(crate) has_moved: bool,
+    /// A tick has passed in which it has not, and is to be counted.
+    pub(crate) is_silent: bool,
+    /// Its connection is in an exchange, and waits.
+    pub(crate) is_in_exchange: bool,
     /// It has bytes that wait for room.
     pub(crate) is_blocked: bool,
     /// A tick has passed since its line was told something.
@@ -47,7 +51,9 @@ impl Place {
         Place {
             usage: Use::Seat(at),
             is_queued: false,
-            was_named: true,
+            has_moved: true,
+            is_silent: false,
+            is_in_exchange: false,
             is_blocked: false,
             has_ticked: false,
             stuck: 0,
@@ -59,7 +65,6 @@ impl Place {
     /// Its line is told what the system told of it. Whether nothing waits for room any more: all has left, or its client is given
     /// up, since nothing did for this many ticks.
     pub(crate) fn tell(&mut self, polled: &Polled, patience: u32) -> bool {
-        self.was_named = true;
         if self.is_ended {
             polled.has_ended();
         } else if self.is_readable {
@@ -101,11 +106,20 @@ impl Place {
         *ticks == 0
     }
 
-    /// A tick has passed. Whether it is to be taken up: it was not since the one before, or it has bytes that wait.
+    /// A tick has passed. Whether it is to be taken up: its connection has moved nothing since the one before, or it has bytes that
+    /// wait.
     pub(crate) fn is_due(&mut self) -> bool {
-        let was_named = self.was_named;
-        self.was_named = false;
+        self.is_silent = !self.has_moved;
+        self.has_moved = false;
         self.has_ticked = true;
-        !was_named || self.is_blocked
+        self.is_silent || self.is_blocked
+    }
+
+    /// It is taken up. Whether a tick is to be counted.
+    pub(crate) fn take_up(&mut self) -> bool {
+        self.is_queued = false;
+        let is_silent = self.is_silent;
+        self.is_silent = false;
+        is_silent
     }
 }

@@ -1,12 +1,19 @@
 //! The sockets that were registered, and those of them that are to be taken up.
 use crate::place::{Place, PolledLine, Use};
+use asgi_many::Ready;
 use mio::event::Event;
 use slab::Slab;
 use std::alloc::{AllocError, Global};
 use std::collections::VecDeque;
+use std::time::Duration;
 
 /// How many turns in a row one connection takes before the others have theirs.
 const IN_A_ROW: u32 = 16;
+
+/// After how many milliseconds an exchange that waits is looked at again, since its task may wait for something else than its
+/// socket. One more is added for so many exchanges that wait.
+const BEAT: u64 = 10;
+const IN_A_MILLISECOND: u64 = 20;
 
 /// How many ticks a connection that has ended is kept for its peer to close it too.
 const CLOSING_TICKS: u32 = 2;
@@ -25,8 +32,18 @@ pub(crate) struct Queue {
     round: usize,
     /// For how many ticks in a row nothing of what waits for room may leave.
     patience: u32,
+    /// How many are in an exchange that waits.
+    exchanges: u64,
     /// A socket was closed since it was asked for.
     freed: bool,
+}
+
+/// Names the connection in this seat, which may move something, or for which a tick is to be counted.
+fn named(at: usize, is_silent: bool) -> Ready {
+    if is_silent {
+        return Ready::Tick(at);
+    }
+    Ready::Seat(at)
 }
 
 impl Queue {
@@ -42,6 +59,7 @@ impl Queue {
             turns: 0,
             round: 0,
             patience,
+            exchanges: 0,
             freed: false,
         })
     }
@@ -99,23 +117,29 @@ impl Queue {
     }
 
     /// The seat that is taken up next, if there is one in this round.
-    pub(crate) fn next(&mut self) -> Option<usize> {
+    pub(crate) fn next(&mut self) -> Option<Ready> {
         if let Some(token) = self.first.take() {
-            return self.seat_of(token);
+            return Some(Ready::Seat(self.seat_of(token)?));
         }
         self.turns = 0;
         for _one in 0..self.round {
             self.round = self.round.saturating_sub(1);
             let token = self.waiting.pop_front()?;
-            if let Some(place) = self.places.get_mut(token) {
-                place.is_queued = false;
-            }
+            let is_silent = self.take_up(token);
             if let Some(at) = self.seat_of(token) {
-                return Some(at);
+                return Some(named(at, is_silent));
             }
             self.go_on_closing(token);
         }
         None
+    }
+
+    /// The socket with this token does not wait any more. Whether a tick is to be counted.
+    fn take_up(&mut self, token: usize) -> bool {
+        match self.places.get_mut(token) {
+            Some(place) => place.take_up(),
+            None => false,
+        }
     }
 
     /// The seat whose socket has this token.
@@ -136,11 +160,58 @@ impl Queue {
         let Some(token) = self.token_of(at) else {
             return;
         };
+        if let Some(place) = self.places.get_mut(token) {
+            place.has_moved = true;
+        }
         if self.turns < IN_A_ROW {
             self.turns += 1;
             self.first = Some(token);
         } else {
             self.push(token);
+        }
+    }
+
+    /// The connection in this seat waits, in an exchange or for the next one.
+    pub(crate) fn rests(&mut self, at: usize, is_in_exchange: bool) {
+        if let Some(token) = self.token_of(at) {
+            self.set_exchange(token, is_in_exchange);
+        }
+    }
+
+    /// The connection whose socket has this token is in an exchange that waits, or is not.
+    fn set_exchange(&mut self, token: usize, is_in_exchange: bool) {
+        let Some(place) = self.places.get_mut(token) else {
+            return;
+        };
+        if place.is_in_exchange == is_in_exchange {
+            return;
+        }
+        place.is_in_exchange = is_in_exchange;
+        self.exchanges = if is_in_exchange {
+            self.exchanges.saturating_add(1)
+        } else {
+            self.exchanges.saturating_sub(1)
+        };
+    }
+
+    /// After how long the exchanges that wait are looked at again, if there are any.
+    pub(crate) fn time_of_beat(&self) -> Option<Duration> {
+        if self.exchanges == 0 {
+            return None;
+        }
+        Some(Duration::from_millis(BEAT + self.exchanges / IN_A_MILLISECOND))
+    }
+
+    /// Each connection in an exchange that waits is taken up.
+    pub(crate) fn beat(&mut self) {
+        for token in 0..self.places.capacity() {
+            let is_in_exchange = match self.places.get(token) {
+                Some(place) => place.is_in_exchange,
+                None => false,
+            };
+            if is_in_exchange {
+                self.push(token);
+            }
         }
     }
 
@@ -164,6 +235,7 @@ impl Queue {
         let Some(token) = self.token_of(at) else {
             return;
         };
+        self.set_exchange(token, false);
         let Some(place) = self.places.get_mut(token) else {
             return;
         };
@@ -189,7 +261,7 @@ impl Queue {
         }
     }
 
-    /// A tick has passed: those that were not taken up since the one before are.
+    /// A tick has passed: those that have moved nothing since the one before are taken up.
     pub(crate) fn tick(&mut self) {
         for token in 0..self.places.capacity() {
             if self.is_late(token) {

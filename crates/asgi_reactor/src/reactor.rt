@@ -43,15 +43,16 @@ pub struct Numbers {
     pub seats: usize,
     /// How many connections it gives at the most.
     pub count: u64,
-    /// How often a seat that is not ready is named.
+    /// How long a connection moves nothing until a tick is counted for it.
     pub tick: Duration,
     /// For how many ticks in a row nothing may leave of what a client has not taken, before it is given up.
     pub patience: u32,
 }
 
 /// The connections of a port: at most a number of them, and none once a flag was found set. A seat is named once the
-/// system says that its socket is ready, and at each tick if it was not named since the one before. If no connection can be
-/// accepted any more, `why` has the system's error. A want of descriptors or of memory is waited for, from tick to tick.
+/// system says that its socket is ready, now and then while its connection waits in an exchange, and at each tick if its
+/// connection has moved nothing since the one before. If no connection can be accepted any more, `why` has the system's error.
+/// A want of descriptors or of memory is waited for, from tick to tick.
 #[derive(Drop)]
 pub struct SocketReactor<'a, R: Clock> {
     clock: &'a R,
@@ -72,6 +73,8 @@ pub struct SocketReactor<'a, R: Clock> {
     is_short: bool,
     tick: Duration,
     last_tick: Option<Instant>,
+    // The exchanges that wait were looked at.
+    last_beat: Option<Instant>,
     why: Option<io::Error>,
     told: History<Next<PolledLine>>,
 }
@@ -107,6 +110,7 @@ impl<'a, R: Net + Clock> SocketReactor<'a, R> {
             is_short: false,
             tick: numbers.tick.max(Duration::from_millis(SHORTEST_TICK)),
             last_tick: time_of(rt),
+            last_beat: time_of(rt),
             why: None,
             told: History::new(),
         })
@@ -242,21 +246,32 @@ impl<R: Clock> SocketReactor<'_, R> {
         if self.queue.is_waiting() {
             return Duration::from_millis(0);
         }
-        let rest = self.rest_of_tick();
+        let mut rest = self.rest_of(self.last_tick, self.tick);
+        if let Some(beat) = self.queue.time_of_beat() {
+            rest = rest.min(self.rest_of(self.last_beat, beat));
+        }
         if self.flag.is_some() {
             return rest.min(Duration::from_millis(FLAG_WAIT));
         }
         rest
     }
 
-    /// How long it is to the next tick.
-    fn rest_of_tick(&self) -> Duration {
-        let Some(last) = self.last_tick else {
-            return self.tick;
+    /// How long it is until so much time has passed since then.
+    fn rest_of(&self, since: Option<Instant>, length: Duration) -> Duration {
+        let Some(since) = since else {
+            return length;
         };
-        match last.elapsed(self.clock) {
-            Ok(since) => self.tick.saturating_sub(since),
-            Err(_) => self.tick,
+        match since.elapsed(self.clock) {
+            Ok(elapsed) => length.saturating_sub(elapsed),
+            Err(_) => length,
+        }
+    }
+
+    /// Whether the exchanges that wait are to be looked at.
+    fn is_beat(&self) -> bool {
+        match self.queue.time_of_beat() {
+            Some(beat) => self.rest_of(self.last_beat, beat) == Duration::from_millis(0),
+            None => false,
         }
     }
 
@@ -278,10 +293,21 @@ impl<R: Clock> SocketReactor<'_, R> {
         if is_set(self.flag) {
             self.arrived = true;
         }
-        if self.rest_of_tick() == Duration::from_millis(0) {
+        if self.is_beat() {
+            self.begin_beat();
+        }
+        if self.rest_of(self.last_tick, self.tick) == Duration::from_millis(0) {
             self.begin_tick();
         }
         self.queue.begin_round();
+    }
+
+    /// The exchanges that wait are looked at.
+    fn begin_beat(&mut self)
+        ensures { (self.new.told ≡ self.old.told) × (self.new.left ≡ self.old.left) × (self.new.why ≡ self.old.why) }
+    {
+        self.last_beat = time_of(self.clock);
+        self.queue.beat();
     }
 
     /// A tick has passed.
@@ -301,8 +327,8 @@ impl<R: Clock> SocketReactor<'_, R> {
             self.arrived = false;
             return Some(Ready::Arrivals);
         }
-        if let Some(at) = self.queue.next() {
-            return Some(Ready::Seat(at));
+        if let Some(ready) = self.queue.next() {
+            return Some(ready);
         }
         if self.is_short && self.queue.has_freed() {
             self.is_short = false;
@@ -361,7 +387,8 @@ impl<R: Clock> Reactor for SocketReactor<'_, R> {
         self.queue.again(at);
     }
 
-    fn rests(&mut self, _at: usize, line: &PolledLine) {
+    fn rests(&mut self, at: usize, line: &PolledLine, is_in_exchange: bool) {
+        self.queue.rests(at, is_in_exchange);
         if let Some(polled) = line.stream() {
             let _all = polled.push();
         }

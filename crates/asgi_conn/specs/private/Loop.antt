@@ -91,6 +91,13 @@ abbrev pub IsGoing : {X : Type 0} → Place X → Type 0
 IsGoing (place.Ended outcome) = ⊥
 IsGoing _ = ⊤
 
+-- no request follows the exchange that is there, if there is one
+abbrev pub IsOpen : {X : Type 0} → Place X → Type 0
+IsOpen (place.Between wire) = ⊤
+IsOpen (place.Http half exchange) = half.stage ≢ Over NextRequest
+IsOpen (place.Session half exchange) = ⊤
+IsOpen (place.Ended outcome) = ⊥
+
 -- between two requests, or at the end
 abbrev pub IsAtRest : {X : Type 0} → Place X → Limits → LineState → LineState → List ℕ → List ExchangeRecord → List ℕ → Type 0
 IsAtRest (place.Between wire) limits start now read exchanges written =

@@ -22,7 +22,7 @@ pub returns-in-Moved-clause-turned : goal.returns-in-Moved-clause-turned
 returns-in-Moved-clause-turned g c =
     let there = sym c.in-Some.ensures.value in
     let written = lemma.writes c.args.self.now.seats c.args.at c.in-Some.seat.now c.turn.new.self there in
-    rw (there, written.changed) (c.in-Moved.ensures.takes tt)
+    rw (there, written.changed) (c.in-Moved.ensures.moved refl)
 
 pub returns-in-Idle-clause-holds : goal.returns-in-Idle-clause-holds
 returns-in-Idle-clause-holds g c came ended holds =
@@ -33,7 +33,7 @@ pub returns-in-Idle-clause-turned : goal.returns-in-Idle-clause-turned
 returns-in-Idle-clause-turned g c =
     let there = sym c.in-Some.ensures.value in
     let written = lemma.writes c.args.self.now.seats c.args.at c.in-Some.seat.now c.turn.new.self there in
-    rw (there, written.changed) (c.in-Idle.ensures.takes tt)
+    rw (there, written.changed) (c.in-Idle.ensures.idle refl)
 
 pub returns-in-Over-clause-holds : goal.returns-in-Over-clause-holds
 returns-in-Over-clause-holds g c came ended holds =
