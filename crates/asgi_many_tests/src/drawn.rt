@@ -1,11 +1,11 @@
 //! Seats named in an order that a seed sets, also free ones and ones that are not there: each connection is served as it is
 //! alone, with its report under its own number.
-use crate::lines::{Input, Line, line};
-use crate::serving::{Draws, run};
+use crate::lines::{Input, Line, alone};
+use crate::serving::{Draws, Ran, run};
 use asgi_apps::{AppTask, Application, Echo, Hello};
 use asgi_conn::Host;
 use asgi_fakes::texts::{GET, GET_AND_CLOSE, TWO_REQUESTS};
-use asgi_fakes::{Way, serve, text_of};
+use asgi_fakes::text_of;
 use asgi_many::Ended;
 use asgi_types::Limits;
 use std::io;
@@ -41,9 +41,34 @@ fn is_as_alone<H: Host, T: AppTask + Send + 'static, A: Application<Task = T>>(
     input: &Input,
     end: &Ended<Line>,
 ) -> io::Result<bool> {
-    let mut alone = line(rt, input)?;
-    let (report, pauses) = serve(rt, Way::Inline, limits, app, &mut alone)?;
-    Ok(end.report == report && end.pauses == pauses && text_of(&end.line) == text_of(&alone))
+    match alone(rt, app, limits, input, text_of(&end.line))? {
+        Some(served) => Ok(served == (end.report, end.pauses)),
+        None => Ok(false),
+    }
+}
+
+/// Whether each of these has ended, as it does alone.
+fn have_ended<H: Host, T: AppTask + Send + 'static, A: Application<Task = T>>(
+    rt: &H,
+    app: &A,
+    limits: &Limits,
+    inputs: &[Input],
+    ends: &[Option<Ended<Line>>],
+) -> io::Result<bool> {
+    for (input, end) in inputs.iter().zip(ends.iter()) {
+        let Some(end) = end else {
+            return Ok(false);
+        };
+        if !is_as_alone(rt, app, limits, input, end)? {
+            return Ok(false);
+        }
+    }
+    Ok(true)
+}
+
+/// Whether a run of so many was right, and named a seat in which nobody sat.
+fn is_right(ran: &Ran<Line>, many: usize) -> bool {
+    !ran.is_wrong && ran.nobody != 0 && ran.ends.len() == many
 }
 
 /// Whether each has ended once, as it does alone.
@@ -56,44 +81,36 @@ fn are_as_alone<H: Host, T: AppTask + Send + 'static, A: Application<Task = T>>(
 ) -> io::Result<bool> {
     let limits = Limits::usual();
     let ran = run(rt, app, &limits, inputs, places, Draws { seed })?;
-    if ran.is_wrong || ran.nobody == 0 || ran.ends.len() != inputs.len() {
+    if !is_right(&ran, inputs.len()) {
         return Ok(false);
     }
-    for (input, end) in inputs.iter().zip(ran.ends.iter()) {
-        let Some(end) = end else {
-            return Ok(false);
-        };
-        if !is_as_alone(rt, app, &limits, input, end)? {
-            return Ok(false);
-        }
-    }
-    Ok(true)
+    have_ended(rt, app, &limits, inputs, &ran.ends)
 }
 
 const PLACES: &[usize] = &[1, 2, 5, 64];
 
-#[test]
-fn seats_in_any_order_greet_as_one_alone(rt: HostRuntime) -> Result<(), Fail> {
+/// Fails with the first number of places, and the number of the seed, with which one ends otherwise than alone.
+fn check<H: Host, T: AppTask + Send + 'static, A: Application<Task = T>>(
+    rt: &H,
+    app: &A,
+    seed: u64,
+) -> Result<(), Fail> {
     for places in PLACES {
-        for seed in 1..6u64 {
-            assert!(rt;
-                are_as_alone(&rt, &Hello, INPUTS, *places, seed * 7_919)?,
-                "{places} places, seed {seed}"
-            );
+        for number in 1..6u64 {
+            if !are_as_alone(rt, app, INPUTS, *places, seed.saturating_mul(number))? {
+                return Err(Fail::from((*places, number)));
+            }
         }
     }
     Ok(())
 }
 
 #[test]
+fn seats_in_any_order_greet_as_one_alone(rt: HostRuntime) -> Result<(), Fail> {
+    check(&rt, &Hello, 7_919)
+}
+
+#[test]
 fn seats_in_any_order_echo_as_one_alone(rt: HostRuntime) -> Result<(), Fail> {
-    for places in PLACES {
-        for seed in 1..6u64 {
-            assert!(rt;
-                are_as_alone(&rt, &Echo, INPUTS, *places, seed * 104_729)?,
-                "{places} places, seed {seed}"
-            );
-        }
-    }
-    Ok(())
+    check(&rt, &Echo, 104_729)
 }

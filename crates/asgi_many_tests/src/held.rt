@@ -6,7 +6,7 @@ ghost use Rattle.asgi_many.specs.Standing.{Holds};
 
 use asgi_apps::Application;
 use asgi_conn::{Calls, Line, Runner};
-use asgi_many::{Newcomer, Table, Turned};
+use asgi_many::{Cause, Newcomer, Table, Turned};
 use asgi_types::{Limits, State};
 use std::alloc::{AllocError, Global};
 
@@ -55,11 +55,12 @@ pub fn turn_of<X, A: Application, L: Line, U: Runner<A::Task, Exchange = X>>(
     calls: &mut Calls<'_, A>,
     runner: &mut U,
     at: usize,
+    cause: Cause,
 ) -> Turned<L>
     requires { (came : List (Newcomer L)) × (ended : List (Option (Ended L)))
         × Holds A.Task.answers U.Pipes.Conn.ConnEnd U.Pipes.App.AppEnd U.conn U.began (A.answers calls.old.app.now) L.state state.now came table.old ended }
     ensures { (came : List (Newcomer L)) × (ended : List (Option (Ended L)))
         × Holds A.Task.answers U.Pipes.Conn.ConnEnd U.Pipes.App.AppEnd U.conn U.began (A.answers calls.new.app.now) L.state state.now came table.new ended }
 {
-    table.turn(at, state, calls, runner)
+    table.turn(at, cause, state, calls, runner)
 }

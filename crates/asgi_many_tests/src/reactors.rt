@@ -3,11 +3,11 @@
 ghost use Rattle.std.specs.Prelude.{◌≡◌, ◌++◌, ◌∷◌, []};
 
 use crate::drawn::INPUTS;
-use crate::lines::{Input, Line, line, newcomer};
+use crate::lines::{Input, Line, alone, comers_of};
 use crate::serving::Draws;
 use asgi_apps::{AppTask, Application, Echo, Hello};
 use asgi_conn::{Host, Inline};
-use asgi_fakes::{Way, serve, text_of};
+use asgi_fakes::text_of;
 use asgi_io::History;
 use asgi_many::{Departure, Newcomer, Next, Reactor, Ready, Report, Served, Teller, serve_many};
 use asgi_types::{Limits, State};
@@ -32,10 +32,7 @@ struct Drawn {
 
 impl Drawn {
     fn new<H: Host>(rt: &H, inputs: &[Input], seats: usize, seed: u64) -> Result<Self, AllocError> {
-        let mut comers = Vec::new(rt.alloc());
-        for input in inputs.iter().rev() {
-            comers.push(newcomer(rt, input, 1_000)?)?;
-        }
+        let comers = comers_of(rt, inputs)?;
         Ok(Drawn {
             comers,
             draws: Draws { seed },
@@ -76,7 +73,7 @@ impl Reactor for Drawn {
         if drawn % 4 == 0 {
             return Ready::Arrivals;
         }
-        Ready::Seat(((drawn >> 8) % self.seats.saturating_add(2)) as usize)
+        Ready::Tick(((drawn >> 8) % self.seats.saturating_add(2)) as usize)
     }
 
     fn may_go_on(&mut self, _at: usize, _line: &Line) -> bool {
@@ -85,7 +82,7 @@ impl Reactor for Drawn {
 
     fn again(&mut self, _at: usize) {}
 
-    fn rests(&mut self, _at: usize, _line: &Line) {}
+    fn rests(&mut self, _at: usize, _line: &Line, _is_in_exchange: bool) {}
 
     fn close(&mut self, _at: usize, line: Line) {
         let _kept = self.closed.push(line);
@@ -106,18 +103,16 @@ impl Teller<Departure> for Reports {
     }
 }
 
-/// Serves all that come, and returns how that ended, and what was told.
+/// Serves all that come, and returns how that ended.
 fn served<H: Host, A: Application>(
     rt: &H,
     app: &A,
     seats: usize,
     reactor: &mut Drawn,
-) -> io::Result<(Served, Vec<(u64, Report)>)> {
-    let state = State::new(rt.alloc());
-    let mut reports = Reports {
-        list: Vec::new(rt.alloc()),
-    };
+    reports: &mut Reports,
+) -> io::Result<Served> {
     let solo = Solo::new(rt, Doorbell::spinning())?;
+    let state = State::new(rt.alloc());
     let mut runner = Inline::new(solo.begin());
     let served = serve_many(
         rt.alloc(),
@@ -127,11 +122,10 @@ fn served<H: Host, A: Application>(
         app,
         reactor,
         &mut runner,
-        &mut reports,
+        reports,
     );
     runner.end();
-    let Reports { list } = reports;
-    Ok((served?, list))
+    Ok(served?)
 }
 
 /// Whether the connection of this number ended as it does alone.
@@ -145,9 +139,25 @@ fn is_as_alone<H: Host, T: AppTask + Send + 'static, A: Application<Task = T>>(
     let Some(input) = INPUTS.get(place) else {
         return Ok(false);
     };
-    let mut alone = line(rt, input)?;
-    let (report, _) = serve(rt, Way::Inline, &Limits::usual(), app, &mut alone)?;
-    Ok(told.1 == report && text_of(ended) == text_of(&alone))
+    match alone(rt, app, &Limits::usual(), input, text_of(ended))? {
+        Some((report, _)) => Ok((report, place) == (told.1, place)),
+        None => Ok(false),
+    }
+}
+
+/// Whether each of these ended as it does alone, and there are as many as inputs.
+fn are_told<H: Host, T: AppTask + Send + 'static, A: Application<Task = T>>(
+    rt: &H,
+    app: &A,
+    told: &[(u64, Report)],
+    closed: &[Line],
+) -> io::Result<bool> {
+    for (one, ended) in told.iter().zip(closed.iter()) {
+        if !is_as_alone(rt, app, one, ended)? {
+            return Ok(false);
+        }
+    }
+    Ok(closed.len() == INPUTS.len())
 }
 
 /// Whether each of these numbers is there once: 1 upwards.
@@ -160,7 +170,23 @@ fn are_all(told: &[(u64, Report)], many: usize) -> bool {
     told.len() == many
 }
 
-/// Whether each has ended once, as it does alone.
+/// Whether each that the reactor gives ends once, as it does alone.
+fn is_served<H: Host, T: AppTask + Send + 'static, A: Application<Task = T>>(
+    rt: &H,
+    app: &A,
+    seats: usize,
+    reactor: &mut Drawn,
+) -> io::Result<bool> {
+    let mut reports = Reports {
+        list: Vec::new(rt.alloc()),
+    };
+    let how = served(rt, app, seats, reactor, &mut reports)?;
+    if how != Served::All || !are_all(&reports.list, INPUTS.len()) {
+        return Ok(false);
+    }
+    are_told(rt, app, &reports.list, &reactor.closed)
+}
+
 fn are_as_alone<H: Host, T: AppTask + Send + 'static, A: Application<Task = T>>(
     rt: &H,
     app: &A,
@@ -168,51 +194,50 @@ fn are_as_alone<H: Host, T: AppTask + Send + 'static, A: Application<Task = T>>(
     seed: u64,
 ) -> io::Result<bool> {
     let mut reactor = Drawn::new(rt, INPUTS, seats, seed)?;
-    let (how, told) = served(rt, app, seats, &mut reactor)?;
-    if how != Served::All || !are_all(&told, INPUTS.len()) {
-        return Ok(false);
-    }
-    for (one, ended) in told.iter().zip(reactor.closed.iter()) {
-        if !is_as_alone(rt, app, one, ended)? {
-            return Ok(false);
-        }
-    }
-    Ok(reactor.closed.len() == INPUTS.len())
+    is_served(rt, app, seats, &mut reactor)
 }
 
 const SEATS: &[usize] = &[1, 2, 5, 64];
 
-#[test]
-fn a_server_greets_each_as_one_alone(rt: HostRuntime) -> Result<(), Fail> {
+/// Fails with the first number of seats, and the number of the seed, with which one ends otherwise than alone.
+fn check<H: Host, T: AppTask + Send + 'static, A: Application<Task = T>>(
+    rt: &H,
+    app: &A,
+    seed: u64,
+) -> Result<(), Fail> {
     for seats in SEATS {
-        for seed in 1..6u64 {
-            assert!(rt;
-                are_as_alone(&rt, &Hello, *seats, seed * 7_919)?,
-                "{seats} seats, seed {seed}"
-            );
+        for number in 1..6u64 {
+            if !are_as_alone(rt, app, *seats, seed.saturating_mul(number))? {
+                return Err(Fail::from((*seats, number)));
+            }
         }
     }
     Ok(())
 }
 
 #[test]
+fn a_server_greets_each_as_one_alone(rt: HostRuntime) -> Result<(), Fail> {
+    check(&rt, &Hello, 7_919)
+}
+
+#[test]
 fn a_server_echoes_to_each_as_one_alone(rt: HostRuntime) -> Result<(), Fail> {
-    for seats in SEATS {
-        for seed in 1..6u64 {
-            assert!(rt;
-                are_as_alone(&rt, &Echo, *seats, seed * 104_729)?,
-                "{seats} seats, seed {seed}"
-            );
-        }
-    }
-    Ok(())
+    check(&rt, &Echo, 104_729)
 }
 
 /// Serves all inputs, or asks for none where memory is refused before the first.
 fn holds_with_memory<H: Host>(rt: &H) -> io::Result<bool> {
     let mut reactor = Drawn::new(rt, INPUTS, 4, 7_919)?;
-    match served(rt, &Hello, 4, &mut reactor) {
-        Ok((how, told)) => Ok(how == Served::All && told.len() <= INPUTS.len()),
+    is_served_or_unasked(rt, &mut reactor)
+}
+
+/// The same of this reactor.
+fn is_served_or_unasked<H: Host>(rt: &H, reactor: &mut Drawn) -> io::Result<bool> {
+    let mut reports = Reports {
+        list: Vec::new(rt.alloc()),
+    };
+    match served(rt, &Hello, 4, reactor, &mut reports) {
+        Ok(how) => Ok(how == Served::All && reports.list.len() <= INPUTS.len()),
         Err(e) if reactor.asked == 0 => Err(e),
         Err(_) => Ok(false),
     }

@@ -10,7 +10,7 @@ use asgi_apps::{Application, Hello};
 use asgi_conn::{Calls, Host, Inline, Line as AnyLine, Outcome, Runner};
 use asgi_fakes::texts::GET;
 use asgi_fakes::{Memory, Never, line_of};
-use asgi_many::{Ended, Newcomer, Table, Turned};
+use asgi_many::{Cause, Ended, Newcomer, Table, Turned};
 use asgi_types::{Limits, State};
 use futures::task::{Doorbell, Solo};
 use std::alloc::AllocGlobal;
@@ -49,22 +49,32 @@ fn seated<H: Host, X: Drop, A: Application, U: Runner<A::Task, Exchange = X>>(
     Ok((table.len(), holds))
 }
 
+/// How many places there are, how many come, and how many of them get a seat.
+const ROWS: &[(usize, u16, usize)] = &[
+    (0, 2, 0),
+    (1, 0, 0),
+    (1, 1, 1),
+    (1, 3, 1),
+    (3, 2, 2),
+    (3, 9, 3),
+];
+
+/// The same of a table whose connections run in this thread.
+fn seated_inline<H: Host>(rt: &H, places: usize, many: u16) -> io::Result<(usize, bool)> {
+    let solo = Solo::new(rt, Doorbell::spinning())?;
+    let runner = Inline::new(solo.begin());
+    let got = seated(rt, &runner, &Hello, places, many);
+    runner.end();
+    got
+}
+
 #[test]
 fn one_that_finds_no_seat_comes_back(rt: HostRuntime) -> Result<(), Fail> {
-    let rows: &[(usize, u16, usize)] = &[
-        (0, 2, 0),
-        (1, 0, 0),
-        (1, 1, 1),
-        (1, 3, 1),
-        (3, 2, 2),
-        (3, 9, 3),
-    ];
-    for (places, many, wanted) in rows {
-        let solo = Solo::new(&rt, Doorbell::spinning())?;
-        let runner = Inline::new(solo.begin());
-        let got = seated(&rt, &runner, &Hello, *places, *many);
-        runner.end();
-        assert_eq!(rt; got?, (*wanted, true), "{places} places, {many} come");
+    for (places, many, wanted) in ROWS {
+        assert!(rt;
+            seated_inline(&rt, *places, *many)? == (*wanted, true),
+            "{places} places, {many} come"
+        );
     }
     Ok(())
 }
@@ -79,6 +89,7 @@ fn turns<X, A: Application, L: AnyLine, U: Runner<A::Task, Exchange = X>>(
     calls: &mut Calls<'_, A>,
     runner: &mut U,
     at: usize,
+    cause: Cause,
     many: u64,
 ) -> Option<Ended<L>>
     requires { (came : List (Newcomer L)) × (ended : List (Option (Ended L)))
@@ -87,7 +98,7 @@ fn turns<X, A: Application, L: AnyLine, U: Runner<A::Task, Exchange = X>>(
         × Holds A.Task.answers U.Pipes.Conn.ConnEnd U.Pipes.App.AppEnd U.conn U.began (A.answers calls.new.app.now) L.state state.now came table.new ended }
 {
     for _turn in 0..many {
-        match turn_of(table, state, calls, runner, at) {
+        match turn_of(table, state, calls, runner, at, cause) {
             Turned::Over(end) => return Some(end),
             Turned::NoOne => {}
             Turned::Moved => {}
@@ -106,33 +117,85 @@ fn is_silent<L>(end: &Option<Ended<L>>, number: u64, pauses: u64) -> bool {
     same && end.report.outcome == Outcome::Idle && end.report.turns == pauses
 }
 
-/// Two silent connections, within five idle turns: the first is given up after five of its own, whatever the other took.
+/// Whether its connection has not ended after so many turns.
+fn stays<X, A: Application, L: AnyLine + Drop, U: Runner<A::Task, Exchange = X>>(
+    table: &mut Table<X, L>,
+    state: &State,
+    calls: &mut Calls<'_, A>,
+    runner: &mut U,
+    at: usize,
+    cause: Cause,
+    many: u64,
+) -> bool
+    requires { (came : List (Newcomer L)) × (ended : List (Option (Ended L)))
+        × Holds A.Task.answers U.Pipes.Conn.ConnEnd U.Pipes.App.AppEnd U.conn U.began (A.answers calls.old.app.now) L.state state.now came table.old ended }
+    ensures { (came : List (Newcomer L)) × (ended : List (Option (Ended L)))
+        × Holds A.Task.answers U.Pipes.Conn.ConnEnd U.Pipes.App.AppEnd U.conn U.began (A.answers calls.new.app.now) L.state state.now came table.new ended }
+{
+    turns(table, state, calls, runner, at, cause, many).is_none()
+}
+
+/// Whether its connection is given up after five ticks, of which these are the last.
+fn is_over<X, A: Application, L: AnyLine + Drop, U: Runner<A::Task, Exchange = X>>(
+    table: &mut Table<X, L>,
+    state: &State,
+    calls: &mut Calls<'_, A>,
+    runner: &mut U,
+    at: usize,
+    many: u64,
+    number: u64,
+) -> bool
+    requires { (came : List (Newcomer L)) × (ended : List (Option (Ended L)))
+        × Holds A.Task.answers U.Pipes.Conn.ConnEnd U.Pipes.App.AppEnd U.conn U.began (A.answers calls.old.app.now) L.state state.now came table.old ended }
+    ensures { (came : List (Newcomer L)) × (ended : List (Option (Ended L)))
+        × Holds A.Task.answers U.Pipes.Conn.ConnEnd U.Pipes.App.AppEnd U.conn U.began (A.answers calls.new.app.now) L.state state.now came table.new ended }
+{
+    let end = turns(table, state, calls, runner, at, Cause::Tick, many);
+    is_silent(&end, number, 5)
+}
+
+/// Whether the first is given up after five ticks of its own, however often it was woken for nothing, and whatever the second took.
+fn take_turns<X, A: Application, L: AnyLine + Drop, U: Runner<A::Task, Exchange = X>>(
+    table: &mut Table<X, L>,
+    state: &State,
+    calls: &mut Calls<'_, A>,
+    runner: &mut U,
+    first: usize,
+    second: usize,
+) -> bool
+    requires { (came : List (Newcomer L)) × (ended : List (Option (Ended L)))
+        × Holds A.Task.answers U.Pipes.Conn.ConnEnd U.Pipes.App.AppEnd U.conn U.began (A.answers calls.old.app.now) L.state state.now came table.old ended }
+{
+    let woken = stays(table, state, calls, runner, first, Cause::Wake, 20);
+    let early = stays(table, state, calls, runner, first, Cause::Tick, 5);
+    let between = stays(table, state, calls, runner, second, Cause::Tick, 3);
+    let at_limit = is_over(table, state, calls, runner, first, 1, 0);
+    let after = stays(table, state, calls, runner, first, Cause::Tick, 9);
+    let left = table.len();
+    let last = is_over(table, state, calls, runner, second, 3, 1);
+    woken && early && between && at_limit && after && left == 1 && last && table.is_empty()
+}
+
+/// Two silent connections, within five idle turns.
 fn are_given_up<H: Host, X: Drop, A: Application, U: Runner<A::Task, Exchange = X>>(
     rt: &H,
     app: &A,
     runner: &mut U,
 ) -> io::Result<bool> {
+    let one = silent(rt)?;
+    let other = silent(rt)?;
     let state = State::new(rt.alloc());
     let mut calls = Calls::of(app);
     let mut limits = Limits::usual();
     limits.idle_turns = 5;
     let mut table = table_of::<X, A, Mute, U>(rt.alloc(), &limits, 2, &state, &calls)?;
-    let one = silent(rt)?;
-    let other = silent(rt)?;
     let Ok(first) = seat_of::<X, A, Mute, U>(&mut table, &state, &calls, one) else {
         return Ok(false);
     };
     let Ok(second) = seat_of::<X, A, Mute, U>(&mut table, &state, &calls, other) else {
         return Ok(false);
     };
-    let early = turns(&mut table, &state, &mut calls, runner, first, 5);
-    let between = turns(&mut table, &state, &mut calls, runner, second, 3);
-    let at_limit = turns(&mut table, &state, &mut calls, runner, first, 1);
-    let after = turns(&mut table, &state, &mut calls, runner, first, 9);
-    let left = table.len();
-    let last = turns(&mut table, &state, &mut calls, runner, second, 3);
-    let none = early.is_none() && between.is_none() && after.is_none() && left == 1;
-    Ok(none && is_silent(&at_limit, 0, 5) && is_silent(&last, 1, 5) && table.is_empty())
+    Ok(take_turns(&mut table, &state, &mut calls, runner, first, second))
 }
 
 /// One that says nothing.
@@ -144,12 +207,16 @@ fn silent<H: AllocGlobal>(rt: &H) -> io::Result<Newcomer<Mute>> {
     })
 }
 
+fn are_given_up_inline<H: Host>(rt: &H) -> io::Result<bool> {
+    let solo = Solo::new(rt, Doorbell::spinning())?;
+    let mut runner = Inline::new(solo.begin());
+    let given_up = are_given_up(rt, &Hello, &mut runner);
+    runner.end();
+    given_up
+}
+
 #[test]
 fn silent_seats_are_given_up_by_their_own_turns(rt: HostRuntime) -> Result<(), Fail> {
-    let solo = Solo::new(&rt, Doorbell::spinning())?;
-    let mut runner = Inline::new(solo.begin());
-    let given_up = are_given_up(&rt, &Hello, &mut runner);
-    runner.end();
-    assert!(rt; given_up?);
+    assert!(rt; are_given_up_inline(&rt)?);
     Ok(())
 }

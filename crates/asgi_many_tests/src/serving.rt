@@ -5,13 +5,13 @@ ghost use Rattle.asgi_many.specs.declared.seat.Newcomer.{Newcomer};
 ghost use Rattle.asgi_many.specs.Standing.{Holds};
 
 use crate::held::{seat_of, table_of, turn_of};
-use crate::lines::{Input, Line, newcomer};
+use crate::lines::{Input, Line, comers_of};
 use asgi_apps::Application;
 use asgi_conn::{Calls, Host, Inline, Line as AnyLine, Runner};
-use asgi_many::{Ended, Newcomer, Table, Turned};
+use asgi_many::{Cause, Ended, Newcomer, Table, Turned};
 use asgi_types::{Limits, State};
 use futures::task::{Doorbell, Solo};
-use std::alloc::{AllocError, AllocGlobal, Global};
+use std::alloc::{AllocError, Global};
 use std::io::{self, ErrorKind};
 
 /// The most steps of a run.
@@ -79,15 +79,6 @@ impl<L: Drop> Ran<L> {
     }
 }
 
-/// Those that come for these inputs, the last one first.
-fn comers_of<H: AllocGlobal>(rt: &H, inputs: &[Input]) -> Result<Vec<Newcomer<Line>>, AllocError> {
-    let mut comers = Vec::new(rt.alloc());
-    for input in inputs.iter().rev() {
-        comers.push(newcomer(rt, input, 1_000)?)?;
-    }
-    Ok(comers)
-}
-
 /// One that waits is given a seat, or waits on if the table is full; or a seat takes a turn, which may be free or not there.
 fn step<X, A: Application, L: AnyLine + Drop, U: Runner<A::Task, Exchange = X>>(
     table: &mut Table<X, L>,
@@ -105,7 +96,7 @@ fn step<X, A: Application, L: AnyLine + Drop, U: Runner<A::Task, Exchange = X>>(
     if drawn % 4 != 0 {
         let many = (table.bound() as u64).saturating_add(2);
         let at = ((drawn >> 8) % many) as usize;
-        return turn_of(table, state, calls, runner, at);
+        return turn_of(table, state, calls, runner, at, Cause::Tick);
     }
     let Some(newcomer) = waiting.take() else {
         return Turned::NoOne;
@@ -128,8 +119,8 @@ pub fn run<H: Host, A: Application>(
     places: usize,
     draws: Draws,
 ) -> io::Result<Ran<Line>> {
-    let comers = comers_of(rt, inputs)?;
     let solo = Solo::new(rt, Doorbell::spinning())?;
+    let comers = comers_of(rt, inputs)?;
     let mut runner = Inline::new(solo.begin());
     let state = State::new(rt.alloc());
     let ran = run_by(
