@@ -303,6 +303,17 @@ class Chat(unittest.TestCase):
             self.assertEqual([it.close() for it in sessions], [1000] * members)
             self.assertEqual(served.ended(), ([("1", "finished")] * members, 0))
 
+    def test_many_members(self):
+        members = 200
+        with Program("chat_example", members) as served:
+            sessions = [Session(served.port) for _ in range(members)]
+            began = time.monotonic()
+            sessions[0].send("to all")
+            self.assertEqual([it.text() for it in sessions], ["to all"] * members)
+            self.assertLess(time.monotonic() - began, 5)
+            self.assertEqual([it.close() for it in sessions], [1000] * members)
+            self.assertEqual(served.ended(), ([("1", "finished")] * members, 0))
+
     def test_what_it_takes_no_part_of(self):
         with Program("chat_example", 2) as served:
             with Session(served.port) as session:

@@ -7,6 +7,7 @@ requests they had, are a part of each test.
 """
 
 import resource
+import select
 import shutil
 import socket
 import struct
@@ -92,8 +93,37 @@ def body_of(answer):
     return head, None
 
 
+def drip(line, text, each, pause):
+    """How many pieces of so many bytes the server has taken until it closed the connection; None if it took all."""
+    for number, at in enumerate(range(0, len(text), each)):
+        try:
+            line.sendall(text[at : at + each])
+        except OSError:
+            return number
+        if select.select([line], [], [], pause)[0] and not line.recv(1):
+            return number
+    return None
+
+
 class Seats(unittest.TestCase):
     """Many connections in one thread."""
+
+    def test_a_client_that_sends_too_slowly_is_given_up(self):
+        # A tick is 20 milliseconds, and 64 bytes are the least that a sender has to send in one. 60 slow ones are 1.2 seconds.
+        head = b"GET / HTTP/1.1\r\nHost: a\r\nX: " + b"a" * 5_000
+        body = b"POST / HTTP/1.1\r\nHost: a\r\nContent-Length: 5000\r\n\r\n"
+        with Server("echo", 3, tick=20) as server:
+            with server.connect() as line:
+                self.assertTrue(50 < (drip(line, head, 1, 0.01) or 0) < 1_000)
+            with server.connect() as line:
+                line.sendall(body)
+                self.assertTrue(50 < (drip(line, b"a" * 5_000, 1, 0.01) or 0) < 1_000)
+            with server.connect() as line:
+                text = MEBIBYTE[: 200 * 250]
+                whole = post(text)
+                self.assertIsNone(drip(line, whole, 200, 0.01))
+                self.assertEqual(body_of(read_all(line))[1], text)
+            self.assertEqual(server.ended(), sums(3, 2))
 
     def test_clients_that_keep_their_connections(self):
         with Server("hello", CLIENTS) as server:

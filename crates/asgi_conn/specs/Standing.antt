@@ -51,6 +51,8 @@ use Rattle.asgi_conn.specs.Places.{Place, place_of}
 use Rattle.asgi_conn.specs.Places as place
 use Rattle.asgi_conn.specs.declared.connection.Step.{Step}
 use Rattle.asgi_conn.specs.declared.connection.Step.TheVariants as step
+use Rattle.asgi_conn.specs.declared.looking.Standing.{Standing}
+use Rattle.asgi_conn.specs.declared.looking.Standing.TheVariants as standing
 use Rattle.asgi_conn.specs.declared.setting.Setting.{Setting}
 use Rattle.asgi_conn.specs.declared.tally.Tally.{Tally}
 
@@ -190,6 +192,14 @@ IsToEnd (place.Between wire) = ⊥
 IsToEnd (place.Http half exchange) = IsSettled (following_of half.stage)
 IsToEnd (place.Session half exchange) = IsSettled (following_of half.stage)
 IsToEnd (place.Ended outcome) = ⊥
+
+-- what is told of where it stands
+abbrev pub StandsAt : {X : Type 0} → Standing → Place X → Type 0
+StandsAt standing.Between (place.Between wire) = ⊤
+StandsAt standing.InRequest (place.Http half exchange) = ⊤
+StandsAt standing.InSession (place.Session half exchange) = ⊤
+StandsAt standing.Ended (place.Ended outcome) = ⊤
+StandsAt standing at = ⊥
 
 -- this holds of the report, if there is one
 abbrev pub IfOver : Step → (Report → Type 0) → Type 0

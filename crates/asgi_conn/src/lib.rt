@@ -18,4 +18,5 @@ pub use asgi_io::{CountingPause, Pause};
 pub use asgi_run::{AppSide, Beside, Half, Host, Inline, Napping, NoEnds, NoThread, Runner};
 pub use asgi_ws::Line;
 pub use connection::{Connection, Step, serve_calls, serve_connection};
+pub use looking::{Rest, Standing};
 pub use setting::Setting;

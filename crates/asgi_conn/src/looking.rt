@@ -1,5 +1,5 @@
 //! A turn that is counted only if something moved.
-ghost use Rattle.std.specs.Prelude.{◌≡◌, ◌+◌, ◌⊎◌, ◌↔◌, ℕ, length, IsTrue};
+ghost use Rattle.std.specs.Prelude.{◌≡◌, ◌+◌, ◌⊎◌, ℕ, length};
 ghost use Rattle.asgi_types.specs.declared.limits.Limits.{Limits};
 ghost use Rattle.asgi_conversation.specs.declared.report.Report.{Report};
 ghost use Rattle.asgi_io.specs.declared.turns.Turn.{Turn};
@@ -7,7 +7,7 @@ ghost use Rattle.asgi_ws.specs.Lines.{LineState};
 ghost use Rattle.asgi_halves.specs.Kinds.{ReadsNone};
 ghost use Rattle.asgi_conn.specs.Serving.{Serves};
 ghost use Rattle.asgi_conn.specs.Places.{Place, place_of};
-ghost use Rattle.asgi_conn.specs.Standing.{Stands, GoesOn, IfOver, IsReportOf, IsToEnd, TakesOne, TakesTurn, begun_at, step_of, exchanges_of};
+ghost use Rattle.asgi_conn.specs.Standing.{Stands, GoesOn, IfOver, IsReportOf, IsToEnd, StandsAt, TakesOne, TakesTurn, step_of, exchanges_of};
 ghost use Rattle.asgi_conn.specs.private.Loop.{IsGoing, IsOpen};
 
 use crate::connection::{Connection, Step};
@@ -17,6 +17,26 @@ use asgi_io::{Pause, Turn};
 use asgi_pipes::Pipes;
 use asgi_run::Runner;
 use asgi_ws::Line;
+
+/// Where a connection stands between two turns.
+#[derive(Clone, Copy, Debug, PartialEq, Eq)]
+pub enum Standing {
+    /// Between two requests, or before the first one.
+    Between,
+    /// In the exchange of a request.
+    InRequest,
+    /// In that of an opening handshake, and in the session after it.
+    InSession,
+    /// It has ended.
+    Ended,
+}
+
+/// Where a connection stands, and how many exchanges have ended in it.
+#[derive(Clone, Copy, Debug, PartialEq, Eq)]
+pub struct Rest {
+    pub standing: Standing,
+    pub exchanges: u64,
+}
 
 /// What was seen of a turn.
 pub(crate) enum Seen {
@@ -80,13 +100,29 @@ impl<X> Connection<X> {
         }
     }
 
-    /// Whether an exchange is under way.
-    pub fn is_in_exchange(&self) -> bool
-        ensures { IsTrue result ↔ (begun_at (place_of self.now) ≡ 1) }
+    /// Where it stands between two turns, and how many exchanges it has had.
+    pub fn rest(&self) -> Rest
+        ensures standing { StandsAt result.standing (place_of self.now) }
+        ensures exchanges { result.exchanges ≡ self.now.tally.exchanges }
+    {
+        Rest {
+            standing: self.standing(),
+            exchanges: self.tally.exchanges,
+        }
+    }
+
+    fn standing(&self) -> Standing
+        ensures { StandsAt result (place_of self.now) }
     {
         match &self.exchange {
-            Some(_) => true,
-            None => false,
+            Some(_) => match &self.session {
+                None => Standing::InRequest,
+                Some(_) => Standing::InSession,
+            },
+            None => match &self.ended {
+                None => Standing::Between,
+                Some(_) => Standing::Ended,
+            },
         }
     }
 

@@ -10,7 +10,7 @@ mod seating;
 mod serving;
 mod table;
 
-pub use asgi_conn::{Inline, Report, Runner};
+pub use asgi_conn::{Inline, Report, Rest, Runner, Standing};
 pub use asgi_desk::Teller;
 pub use reactor::{Next, Reactor, Ready};
 pub use seat::{Cause, Departure, Ended, Newcomer};

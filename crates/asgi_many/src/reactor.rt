@@ -3,6 +3,7 @@ ghost use Rattle.std.specs.Prelude.{◌≡◌, ◌++◌, ◌∷◌, [], List};
 ghost use Rattle.asgi_many.specs.declared.reactor.Next.{Next};
 
 use crate::seat::Newcomer;
+use asgi_conn::Rest;
 use asgi_ws::Line;
 
 /// How a reactor answers when it is asked for a connection.
@@ -52,9 +53,9 @@ pub trait Reactor {
     fn again(&mut self, at: usize)
         ensures told { answers self.new ≡ answers self.old };
 
-    /// The connection in this seat moved nothing in its turn: what was written for it is not to wait any longer. If it is in an
-    /// exchange, its task may wait for something else than its line.
-    fn rests(&mut self, at: usize, line: &Self::L, is_in_exchange: bool)
+    /// The connection in this seat moved nothing in its turn, and rests here: what was written for it is not to wait any longer. In
+    /// an exchange its task may wait for something else than its line.
+    fn rests(&mut self, at: usize, line: &Self::L, rest: Rest)
         ensures told { answers self.new ≡ answers self.old };
 
     /// The connection in this seat has ended, and the seat is free. Its line is closed once what was written has left.

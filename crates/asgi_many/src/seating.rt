@@ -1,9 +1,9 @@
 //! Who gets a seat, and the turns of who sits there.
-ghost use Rattle.std.specs.Prelude.{◌≡◌, ◌≢◌, ◌+◌, ◌-◌, ◌^◌, ◌<◌, ◌≤◌, ◌⊎◌, ◌↔◌, ◌++◌, ◌∷◌, [], ℕ, List, Option, Some, None, IsTrue, IsFalse, IfOk, IfErr, IsErr, IsSomeAnd, slice_get, option_map};
+ghost use Rattle.std.specs.Prelude.{◌≡◌, ◌≢◌, ◌+◌, ◌-◌, ◌^◌, ◌<◌, ◌≤◌, ◌⊎◌, ◌↔◌, ◌++◌, ◌∷◌, [], ℕ, List, Option, Some, None, IsTrue, IsFalse, IfOk, IfErr, IfSome, IfNone, IsErr, IsSomeAnd, slice_get, option_map};
 ghost use Rattle.asgi_types.specs.declared.state.StateValue.{StateValue};
 ghost use Rattle.slab.specs.Slab.{get, slab_len};
 ghost use Rattle.asgi_conn.specs.Places.{place_of};
-ghost use Rattle.asgi_conn.specs.Standing.{IsReportOf, begun_at};
+ghost use Rattle.asgi_conn.specs.Standing.{IsReportOf, StandsAt};
 ghost use Rattle.asgi_many.specs.declared.seat.Ended.{Ended};
 ghost use Rattle.asgi_many.specs.declared.seat.Newcomer.{Newcomer};
 ghost use Rattle.asgi_many.specs.Standing.{Holds, IsEmpty, IsFull, IsServed};
@@ -12,7 +12,7 @@ ghost use Rattle.asgi_many.specs.Turns.{IfOver, TurnsSeat, ended_after};
 use crate::seat::{Cause, Ended, Newcomer, Seat};
 use crate::table::{Table, Turned};
 use asgi_apps::{Application, Calls};
-use asgi_conn::{Report, Runner, Step};
+use asgi_conn::{Report, Rest, Runner, Step};
 use asgi_types::{Limits, State};
 use asgi_ws::Line;
 use slab::Slab;
@@ -87,14 +87,13 @@ impl<X, L: Line> Table<X, L> {
         Some(&seat.line)
     }
 
-    /// Whether the connection in that seat is in an exchange, if there is one.
-    pub fn is_in_exchange(&self, at: usize) -> bool
-        ensures { IsTrue result ↔ IsSomeAnd (get self.now.seats at) (λ seat. begun_at (place_of seat.connection) ≡ 1) }
+    /// Where the connection in that seat stands, if there is one.
+    pub fn rest(&self, at: usize) -> Option<Rest>
+        ensures some { IfSome result (λ rest. IsSomeAnd (get self.now.seats at)
+            (λ seat. StandsAt rest.standing (place_of seat.connection) × (rest.exchanges ≡ seat.connection.tally.exchanges))) }
+        ensures none { IfNone result (get self.now.seats at ≡ None) }
     {
-        match self.seats.get(at) {
-            Some(seat) => seat.connection.is_in_exchange(),
-            None => false,
-        }
+        Some(self.seats.get(at)?.connection.rest())
     }
 
     /// The seat that the next newcomer gets, if there is one for it. Each seat has a number below `bound`.

@@ -177,9 +177,13 @@ fn go_on<
 fn rests<X, N: Reactor>(table: &Table<X, N::L>, at: usize, reactor: &mut N)
     ensures { N.answers reactor.new ≡ N.answers reactor.old }
 {
-    if let Some(line) = table.line(at) {
-        reactor.rests(at, line, table.is_in_exchange(at));
-    }
+    let Some(line) = table.line(at) else {
+        return;
+    };
+    let Some(rest) = table.rest(at) else {
+        return;
+    };
+    reactor.rests(at, line, rest);
 }
 
 /// Tells of a connection that has ended, and has its line closed.

@@ -17,6 +17,12 @@ use words::{App, Words, usage, words_of};
 /// For how many ticks in a row a client may take nothing of what waits for it.
 const PATIENCE: u32 = 30;
 
+/// How many bytes of a head or a body have to come in a tick in which some do.
+const LEAST: u64 = 64;
+
+/// For how many ticks in a row fewer may come.
+const SLOW: u32 = 60;
+
 fn main(rt: HostRuntime) -> ExitCode {
     let Some(words) = words_of(&rt) else {
         return usage(&mut io::writer(&rt));
@@ -41,6 +47,8 @@ fn serve<A: Application>(rt: &HostRuntime, words: &Words, app: &A) -> io::Result
         count: words.count,
         tick: Duration::from_millis(words.tick),
         patience: PATIENCE,
+        least: LEAST,
+        slow: SLOW,
     };
     let mut reactor = SocketReactor::open(rt, rt.alloc(), words.address, &numbers, None)?;
     let mut out = io::writer(rt);

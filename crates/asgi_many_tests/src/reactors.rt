@@ -9,7 +9,9 @@ use asgi_apps::{AppTask, Application, Echo, Hello};
 use asgi_conn::{Host, Inline};
 use asgi_fakes::text_of;
 use asgi_io::History;
-use asgi_many::{Departure, Newcomer, Next, Reactor, Ready, Report, Served, Teller, serve_many};
+use asgi_many::{
+    Departure, Newcomer, Next, Reactor, Ready, Report, Rest, Served, Teller, serve_many,
+};
 use asgi_types::{Limits, State};
 use futures::task::{Doorbell, Solo};
 use std::alloc::AllocError;
@@ -82,7 +84,7 @@ impl Reactor for Drawn {
 
     fn again(&mut self, _at: usize) {}
 
-    fn rests(&mut self, _at: usize, _line: &Line, _is_in_exchange: bool) {}
+    fn rests(&mut self, _at: usize, _line: &Line, _rest: Rest) {}
 
     fn close(&mut self, _at: usize, line: Line) {
         let _kept = self.closed.push(line);

@@ -4,6 +4,8 @@
 
 mod faults;
 mod held;
+mod numbers;
+mod pace;
 mod peers;
 mod place;
 mod polled;
@@ -11,8 +13,10 @@ mod queue;
 mod reactor;
 mod thread;
 
-pub use asgi_many::{Departure, Next, Reactor, Ready, Served, Teller, serve_many};
+pub use asgi_many::{Departure, Next, Reactor, Ready, Rest, Served, Standing, Teller, serve_many};
 pub use held::{Held, Took};
+pub use numbers::Numbers;
+pub use pace::Pace;
 pub use polled::Polled;
-pub use reactor::{Numbers, PolledLine, SocketReactor};
+pub use reactor::{PolledLine, SocketReactor};
 pub use thread::serve_in_thread;

@@ -1,5 +1,7 @@
 //! What is known of a socket that was registered.
+use crate::pace::Pace;
 use crate::polled::Polled;
+use asgi_many::{Rest, Standing};
 use asgi_ws::Wired;
 
 /// A line over a socket that never waits.
@@ -26,6 +28,10 @@ pub(crate) struct Place {
     pub(crate) is_silent: bool,
     /// Its connection is in an exchange, and waits.
     pub(crate) is_in_exchange: bool,
+    /// How its client sends.
+    pub(crate) pace: Pace,
+    /// Its client has sent too slowly. Nothing more is read of it, and its connection ends as if it were silent.
+    pub(crate) is_deaf: bool,
     /// It has bytes that wait for room.
     pub(crate) is_blocked: bool,
     /// A tick has passed since its line was told something.
@@ -35,6 +41,24 @@ pub(crate) struct Place {
     /// What the system told of it, and its line was not told yet.
     pub(crate) is_readable: bool,
     pub(crate) is_ended: bool,
+}
+
+/// The ticks that have passed, and how slowly a client may send.
+#[derive(Clone, Copy, Debug)]
+pub(crate) struct Clocked {
+    pub(crate) now: u64,
+    pub(crate) least: u64,
+    pub(crate) slow: u64,
+}
+
+/// Whether an exchange is under way.
+pub(crate) fn is_exchange(standing: Standing) -> bool {
+    match standing {
+        Standing::Between => false,
+        Standing::InRequest => true,
+        Standing::InSession => true,
+        Standing::Ended => false,
+    }
 }
 
 /// In how many ticks in a row nothing has left, with one more.
@@ -54,6 +78,8 @@ impl Place {
             has_moved: true,
             is_silent: false,
             is_in_exchange: false,
+            pace: Pace::new(),
+            is_deaf: false,
             is_blocked: false,
             has_ticked: false,
             stuck: 0,
@@ -113,6 +139,19 @@ impl Place {
         self.has_moved = false;
         self.has_ticked = true;
         self.is_silent || self.is_blocked
+    }
+
+    /// Its connection rests. A client that sends the bytes of a head or a body too slowly is heard no more.
+    pub(crate) fn rests(&mut self, polled: &Polled, rest: Rest, clocked: Clocked) {
+        let came = polled.came();
+        if let Standing::InSession = rest.standing {
+            return;
+        }
+        let Clocked { now, least, slow } = clocked;
+        if self.pace.is_too_slow(least, slow, now, came, rest.exchanges) {
+            self.is_deaf = true;
+            polled.stop_reading();
+        }
     }
 
     /// It is taken up. Whether a tick is to be counted.

@@ -25,6 +25,10 @@ pub struct Polled {
     is_readable: Cell<bool>,
     // The peer sends no more, or the socket failed: each read tells at once.
     is_ended: Cell<bool>,
+    // How many bytes were read since it was asked for.
+    came: Cell<u64>,
+    // Nothing more is read.
+    is_deaf: Cell<bool>,
     // What is held waits for room.
     waits: Cell<bool>,
     // Some of what was held has left since it was asked for.
@@ -43,6 +47,8 @@ impl Polled {
             held: RefCell::new(Held::new(alloc)),
             is_readable: Cell::new(false),
             is_ended: Cell::new(false),
+            came: Cell::new(0),
+            is_deaf: Cell::new(false),
             waits: Cell::new(false),
             has_moved: Cell::new(false),
             is_broken: Cell::new(false),
@@ -59,6 +65,16 @@ impl Polled {
     pub fn has_ended(&self) {
         self.is_readable.set(true);
         self.is_ended.set(true);
+    }
+
+    /// How many bytes were read since this was asked the last time.
+    pub fn came(&self) -> u64 {
+        self.came.replace(0)
+    }
+
+    /// From here on each read would wait.
+    pub fn stop_reading(&self) {
+        self.is_deaf.set(true);
     }
 
     /// Whether some of what is held waits for room.
@@ -142,6 +158,9 @@ impl Polled {
 
     /// What the outcome of a read with this much room says of the next one.
     fn note(&self, read: &io::Result<usize>, room: usize) {
+        if let Ok(many) = read {
+            self.came.set(self.came.get().saturating_add(*many as u64));
+        }
         if self.is_ended.get() {
             return;
         }
@@ -158,7 +177,7 @@ fn would_block() -> io::Error {
 
 impl Read for Polled {
     fn read(&mut self, buf: &mut [u8]) -> io::Result<usize> {
-        if !self.push() || !self.is_readable.get() {
+        if !self.push() || self.is_deaf.get() || !self.is_readable.get() {
             return Err(would_block());
         }
         let read = self.stream.read(buf);

@@ -1,6 +1,7 @@
 //! The sockets that were registered, and those of them that are to be taken up.
-use crate::place::{Place, PolledLine, Use};
-use asgi_many::Ready;
+use crate::numbers::Numbers;
+use crate::place::{Clocked, Place, PolledLine, Use, is_exchange};
+use asgi_many::{Ready, Rest};
 use mio::event::Event;
 use slab::Slab;
 use std::alloc::{AllocError, Global};
@@ -34,6 +35,7 @@ pub(crate) struct Queue {
     patience: u32,
     /// How many are in an exchange that waits.
     exchanges: u64,
+    clocked: Clocked,
     /// A socket was closed since it was asked for.
     freed: bool,
 }
@@ -48,18 +50,23 @@ fn named(at: usize, is_silent: bool) -> Ready {
 
 impl Queue {
     /// No socket is registered.
-    pub(crate) fn new(alloc: Global, seats: usize, patience: u32) -> Result<Self, AllocError> {
+    pub(crate) fn new(alloc: Global, numbers: &Numbers) -> Result<Self, AllocError> {
         let mut tokens = Vec::new(alloc);
-        tokens.resize(seats, usize::MAX)?;
+        tokens.resize(numbers.seats, usize::MAX)?;
         Ok(Queue {
-            places: Slab::with_capacity(alloc, seats)?,
+            places: Slab::with_capacity(alloc, numbers.seats)?,
             tokens,
             waiting: VecDeque::new(alloc),
             first: None,
             turns: 0,
             round: 0,
-            patience,
+            patience: numbers.patience,
             exchanges: 0,
+            clocked: Clocked {
+                now: 0,
+                least: numbers.least,
+                slow: numbers.slow as u64,
+            },
             freed: false,
         })
     }
@@ -171,10 +178,22 @@ impl Queue {
         }
     }
 
-    /// The connection in this seat waits, in an exchange or for the next one.
-    pub(crate) fn rests(&mut self, at: usize, is_in_exchange: bool) {
-        if let Some(token) = self.token_of(at) {
-            self.set_exchange(token, is_in_exchange);
+    /// The connection in this seat rests. One whose client was too slow goes on to its end at once, tick by tick.
+    pub(crate) fn rests(&mut self, at: usize, line: &PolledLine, rest: Rest) {
+        let Some(token) = self.token_of(at) else {
+            return;
+        };
+        self.set_exchange(token, is_exchange(rest.standing));
+        let clocked = self.clocked;
+        let Some(place) = self.places.get_mut(token) else {
+            return;
+        };
+        if let Some(polled) = line.stream() {
+            place.rests(polled, rest, clocked);
+        }
+        if place.is_deaf {
+            place.is_silent = true;
+            self.push(token);
         }
     }
 
@@ -263,6 +282,7 @@ impl Queue {
 
     /// A tick has passed: those that have moved nothing since the one before are taken up.
     pub(crate) fn tick(&mut self) {
+        self.clocked.now = self.clocked.now.saturating_add(1);
         for token in 0..self.places.capacity() {
             if self.is_late(token) {
                 self.remove(token);

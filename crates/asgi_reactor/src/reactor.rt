@@ -3,12 +3,13 @@ ghost use Rattle.std.specs.Prelude.{◌≡◌, ◌+◌, ◌++◌, ◌∷◌, [],
 ghost use Rattle.asgi_reactor.specs.Accepting.{IfArrived, IsNone};
 
 use crate::faults::{Fault, fault_of};
+use crate::numbers::Numbers;
 use crate::peers::peer_at;
 pub use crate::place::PolledLine;
 use crate::polled::Polled;
 use crate::queue::Queue;
 use asgi_io::History;
-use asgi_many::{Newcomer, Next, Reactor, Ready};
+use asgi_many::{Newcomer, Next, Reactor, Ready, Rest};
 use asgi_ws::Wired;
 use mio::net::{TcpListener, TcpStream};
 use mio::{Events, Interest, Poll, Token};
@@ -35,19 +36,6 @@ const LAST_WAITS: u32 = 1_000_000;
 
 /// The longest wait if a flag ends the server, in milliseconds.
 const FLAG_WAIT: u64 = 50;
-
-/// The numbers of a reactor.
-#[derive(Clone, Copy, Debug)]
-pub struct Numbers {
-    /// How many seats its server has.
-    pub seats: usize,
-    /// How many connections it gives at the most.
-    pub count: u64,
-    /// How long a connection moves nothing until a tick is counted for it.
-    pub tick: Duration,
-    /// For how many ticks in a row nothing may leave of what a client has not taken, before it is given up.
-    pub patience: u32,
-}
 
 /// The connections of a port: at most a number of them, and none once a flag was found set. A seat is named once the
 /// system says that its socket is ready, now and then while its connection waits in an exchange, and at each tick if its
@@ -102,7 +90,7 @@ impl<'a, R: Net + Clock> SocketReactor<'a, R> {
             poll,
             events: Events::with_capacity(alloc, EVENTS)?,
             listener,
-            queue: Queue::new(alloc, numbers.seats, numbers.patience)?,
+            queue: Queue::new(alloc, numbers)?,
             left: numbers.count,
             flag,
             arrived: true,
@@ -387,8 +375,8 @@ impl<R: Clock> Reactor for SocketReactor<'_, R> {
         self.queue.again(at);
     }
 
-    fn rests(&mut self, at: usize, line: &PolledLine, is_in_exchange: bool) {
-        self.queue.rests(at, is_in_exchange);
+    fn rests(&mut self, at: usize, line: &PolledLine, rest: Rest) {
+        self.queue.rests(at, line, rest);
         if let Some(polled) = line.stream() {
             let _all = polled.push();
         }

@@ -28,6 +28,12 @@ const TICK: u64 = 1;
 /// For how many of them in a row a client may take nothing of what waits for it.
 const PATIENCE: u32 = 30;
 
+/// How many bytes of a head or a body have to come in a second in which some do.
+const LEAST: u64 = 64;
+
+/// For how many seconds in a row fewer may come.
+const SLOW: u32 = 60;
+
 impl<'a, K: Teller<Report> + Drop, E: OnEnd + Drop> Server<'a, K, E, InSeats> {
     /// Listens, starts the application, serves each connection, and stops the application once there are no more: after
     /// the set number of connections, a pulled `Stop`, or an error. A line of the log has the address.
@@ -59,6 +65,8 @@ impl<'a, K: Teller<Report> + Drop, E: OnEnd + Drop> Server<'a, K, E, InSeats> {
             count,
             tick: Duration::from_secs(TICK),
             patience: PATIENCE,
+            least: LEAST,
+            slow: SLOW,
         };
         let reactor = match SocketReactor::open(rt, rt.alloc(), address, &numbers, flag_of(stop)) {
             Ok(reactor) => reactor,
