@@ -368,16 +368,9 @@ class Library(unittest.TestCase):
                 self.assertEqual((told[-2:], status), (["connection 1: 1 requests, finished", "shutdown failed: still busy"], 4))
 
     def test_a_stop_that_the_application_pulls(self):
-        for app in ("ends", "seatsends"):
-            with self.subTest(app=app):
-                self.is_stopped_by_its_application(app)
-
-    def is_stopped_by_its_application(self, app):
-        with Own(app, count=1000) as own:
+        with Own("ends", count=1000) as own:
             port = own.port()
-            begun = socket.create_connection(("127.0.0.1", port), timeout=SECONDS)
-            begun.sendall(b"GET /first HTTP/1.1\r\nHost: a\r\n\r\n")
-            self.assertTrue(begun.recv(1 << 16).startswith(b"HTTP/1.1 200 "))
+            begun = self.begun(port)
             self.assertEqual(self.get(port, b"/end"), b"/end")
             wait_for(lambda: not listens(port) or own.ran.poll() is not None or self.is_left(port), "the server accepts on")
             # What was begun is still answered, and ends the server with it.
@@ -387,6 +380,31 @@ class Library(unittest.TestCase):
             told, status = own.ended()
             self.assertEqual(told[1:], ["connection 1: 1 requests, finished", "connection 2: 2 requests, finished"])
             self.assertEqual(status, 0)
+
+    def test_a_stop_that_the_application_pulls_in_seats(self):
+        with Own("seatsends", count=1000) as own:
+            port = own.port()
+            # One between two requests is closed, one in the middle of a request is answered.
+            rests, asks = self.begun(port), self.begun(port)
+            asks.sendall(b"POST /last HTTP/1.1\r\nHost: a\r\nConnection: close\r\nContent-Length: 3\r\n\r\na")
+            began = time.monotonic()
+            self.assertEqual(self.get(port, b"/end"), b"/end")
+            self.assertEqual(read_all(rests), b"")
+            asks.sendall(b"bc")
+            self.assertIn(b"/last", read_all(asks))
+            told, status = own.ended()
+            self.assertLess(time.monotonic() - began, 20)
+            self.assertEqual(sorted(told[1:]), [
+                "connection 1: 1 requests, idle", "connection 2: 2 requests, finished", "connection 3: 1 requests, finished"
+            ])
+            self.assertEqual(status, 0)
+
+    def begun(self, port):
+        """A connection whose first request was answered."""
+        line = socket.create_connection(("127.0.0.1", port), timeout=SECONDS)
+        line.sendall(b"GET /first HTTP/1.1\r\nHost: a\r\n\r\n")
+        self.assertTrue(line.recv(1 << 16).startswith(b"HTTP/1.1 200 "))
+        return line
 
     def is_left(self, port):
         """Whether the server leaves a connection in the system's queue for a while: nothing is answered."""

@@ -23,6 +23,9 @@ const LEAST: u64 = 64;
 /// For how many ticks in a row fewer may come.
 const SLOW: u32 = 60;
 
+/// For how many ticks exchanges and sessions go on once the server is to end.
+const LEAVE: u32 = 30;
+
 fn main(rt: HostRuntime) -> ExitCode {
     let Some(words) = words_of(&rt) else {
         return usage(&mut io::writer(&rt));
@@ -49,6 +52,7 @@ fn serve<A: Application>(rt: &HostRuntime, words: &Words, app: &A) -> io::Result
         patience: PATIENCE,
         least: LEAST,
         slow: SLOW,
+        leave: LEAVE,
     };
     let mut reactor = SocketReactor::open(rt, rt.alloc(), words.address, &numbers, None)?;
     let mut out = io::writer(rt);

@@ -16,4 +16,6 @@ pub struct Numbers {
     pub least: u64,
     /// How many slow ticks one after another a client may have, before it is given up as if it were silent.
     pub slow: u32,
+    /// For how many ticks exchanges and sessions go on once the flag is set. Connections between two requests end at once.
+    pub leave: u32,
 }

@@ -30,7 +30,7 @@ pub(crate) struct Place {
     pub(crate) is_in_exchange: bool,
     /// How its client sends.
     pub(crate) pace: Pace,
-    /// Its client has sent too slowly. Nothing more is read of it, and its connection ends as if it were silent.
+    /// Nothing more is read of its client, and its connection ends as if that were silent.
     pub(crate) is_deaf: bool,
     /// It has bytes that wait for room.
     pub(crate) is_blocked: bool,
@@ -43,12 +43,27 @@ pub(crate) struct Place {
     pub(crate) is_ended: bool,
 }
 
-/// The ticks that have passed, and how slowly a client may send.
+/// The ticks that have passed, and what is asked of clients by them.
 #[derive(Clone, Copy, Debug)]
 pub(crate) struct Clocked {
     pub(crate) now: u64,
     pub(crate) least: u64,
     pub(crate) slow: u64,
+    pub(crate) leave: u64,
+    /// The tick since which all are to end.
+    pub(crate) leaving: Option<u64>,
+}
+
+impl Clocked {
+    /// Whether a connection that rests here is to end.
+    fn is_over(&self, standing: Standing) -> bool {
+        match self.leaving {
+            None => false,
+            Some(since) => {
+                !is_exchange(standing) || self.now.saturating_sub(since) >= self.leave
+            }
+        }
+    }
 }
 
 /// Whether an exchange is under way.
@@ -141,17 +156,24 @@ impl Place {
         self.is_silent || self.is_blocked
     }
 
-    /// Its connection rests. A client that sends the bytes of a head or a body too slowly is heard no more.
+    /// Its connection rests. It ends as if its client were silent from here on if that sends the bytes of a head or a body too
+    /// slowly, or if the server ends.
     pub(crate) fn rests(&mut self, polled: &Polled, rest: Rest, clocked: Clocked) {
         let came = polled.came();
-        if let Standing::InSession = rest.standing {
-            return;
-        }
-        let Clocked { now, least, slow } = clocked;
-        if self.pace.is_too_slow(least, slow, now, came, rest.exchanges) {
+        if clocked.is_over(rest.standing) || self.is_too_slow(came, rest, clocked) {
             self.is_deaf = true;
             polled.stop_reading();
         }
+    }
+
+    /// Whether its client, of which so many bytes came, is too slow. In a session it may be.
+    fn is_too_slow(&mut self, came: u64, rest: Rest, clocked: Clocked) -> bool {
+        if rest.standing == Standing::InSession {
+            return false;
+        }
+        let (least, slow) = (clocked.least, clocked.slow);
+        self.pace
+            .is_too_slow(least, slow, clocked.now, came, rest.exchanges)
     }
 
     /// It is taken up. Whether a tick is to be counted.

@@ -66,6 +66,8 @@ impl Queue {
                 now: 0,
                 least: numbers.least,
                 slow: numbers.slow as u64,
+                leave: numbers.leave as u64,
+                leaving: None,
             },
             freed: false,
         })
@@ -178,7 +180,7 @@ impl Queue {
         }
     }
 
-    /// The connection in this seat rests. One whose client was too slow goes on to its end at once, tick by tick.
+    /// The connection in this seat rests. One that is to end goes on to its end at once, tick by tick.
     pub(crate) fn rests(&mut self, at: usize, line: &PolledLine, rest: Rest) {
         let Some(token) = self.token_of(at) else {
             return;
@@ -305,6 +307,17 @@ impl Queue {
         match self.places.get_mut(token) {
             Some(place) => place.is_late(patience),
             None => false,
+        }
+    }
+
+    /// The server is to end: each connection is taken up, and those between two requests end.
+    pub(crate) fn leave(&mut self) {
+        if self.clocked.leaving.is_some() {
+            return;
+        }
+        self.clocked.leaving = Some(self.clocked.now);
+        for token in 0..self.places.capacity() {
+            self.push(token);
         }
     }
 

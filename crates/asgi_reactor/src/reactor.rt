@@ -280,6 +280,7 @@ impl<R: Clock> SocketReactor<'_, R> {
         }
         if is_set(self.flag) {
             self.arrived = true;
+            self.queue.leave();
         }
         if self.is_beat() {
             self.begin_beat();

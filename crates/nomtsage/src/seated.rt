@@ -34,6 +34,9 @@ const LEAST: u64 = 64;
 /// For how many seconds in a row fewer may come.
 const SLOW: u32 = 60;
 
+/// For how many seconds exchanges and sessions go on once the server is to end.
+const LEAVE: u32 = 30;
+
 impl<'a, K: Teller<Report> + Drop, E: OnEnd + Drop> Server<'a, K, E, InSeats> {
     /// Listens, starts the application, serves each connection, and stops the application once there are no more: after
     /// the set number of connections, a pulled `Stop`, or an error. A line of the log has the address.
@@ -67,6 +70,7 @@ impl<'a, K: Teller<Report> + Drop, E: OnEnd + Drop> Server<'a, K, E, InSeats> {
             patience: PATIENCE,
             least: LEAST,
             slow: SLOW,
+            leave: LEAVE,
         };
         let reactor = match SocketReactor::open(rt, rt.alloc(), address, &numbers, flag_of(stop)) {
             Ok(reactor) => reactor,
