@@ -13,3 +13,12 @@ pub fn peer_at(alloc: Global, address: io::Result<SocketAddr>) -> Option<Peer> {
         port: address.port(),
     })
 }
+
+/// The side of each connection at a listener with this address, unless that stands for several.
+pub fn own_peer(alloc: Global, address: io::Result<SocketAddr>) -> Option<Peer> {
+    let address = address.ok()?;
+    if address.ip().is_unspecified() {
+        return None;
+    }
+    peer_at(alloc, Ok(address))
+}

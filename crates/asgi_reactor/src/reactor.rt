@@ -4,12 +4,13 @@ ghost use Rattle.asgi_reactor.specs.Accepting.{IfArrived, IsNone};
 
 use crate::faults::{Fault, fault_of};
 use crate::numbers::Numbers;
-use crate::peers::peer_at;
+use crate::peers::{own_peer, peer_at};
 pub use crate::place::PolledLine;
 use crate::polled::Polled;
 use crate::queue::Queue;
 use asgi_io::History;
 use asgi_many::{Newcomer, Next, Reactor, Ready, Rest};
+use asgi_types::Peer;
 use asgi_ws::Wired;
 use mio::net::{TcpListener, TcpStream};
 use mio::{Events, Interest, Poll, Token};
@@ -48,6 +49,8 @@ pub struct SocketReactor<'a, R: Clock> {
     poll: Poll,
     events: Events<Global>,
     listener: TcpListener,
+    // The server of each connection, where it listens at one address.
+    own: Option<Peer>,
     queue: Queue,
     // How many more connections will be accepted.
     left: u64,
@@ -84,12 +87,14 @@ impl<'a, R: Net + Clock> SocketReactor<'a, R> {
         let mut listener = TcpListener::bind(rt, address)?;
         poll.registry()
             .register(&mut listener, Token(ARRIVALS), Interest::READABLE)?;
+        let own = own_peer(alloc, listener.local_addr());
         Ok(SocketReactor {
             clock: rt,
             alloc,
             poll,
             events: Events::with_capacity(alloc, EVENTS)?,
             listener,
+            own,
             queue: Queue::new(alloc, numbers)?,
             left: numbers.count,
             flag,
@@ -221,7 +226,10 @@ impl<R: Clock> SocketReactor<'_, R> {
             return None;
         }
         let client = peer_at(self.alloc, Ok(from));
-        let server = peer_at(self.alloc, stream.local_addr());
+        let server = match &self.own {
+            Some(own) => own.copy(self.alloc).ok(),
+            None => peer_at(self.alloc, stream.local_addr()),
+        };
         Some(Newcomer {
             line: Wired::new(self.alloc, Polled::new(self.alloc, stream)),
             client,
