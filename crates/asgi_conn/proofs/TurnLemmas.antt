@@ -56,9 +56,9 @@ next_room _ tally room next = room
 
 -- what is not followed by a request needs no room for one
 room_open : {X : Type 0} (later : Place X) (tally : Tally) → tally.exchanges ≤ tally.turns.turns → IsOpen later → HasRoom later tally
-room_open (place.Http half exchange) tally room open = (room, λ over. absurd (open over))
-room_open (place.Ended outcome) tally room open = tt
-room_open _ tally room open = room
+room_open (place.Http half exchange) tally room goes = (room, λ over. absurd (goes over))
+room_open (place.Ended outcome) tally room goes = tt
+room_open _ tally room goes = room
 
 module _ {X : Type 0} {limits : Limits} {before pauses : ℕ} where
   -- one more turn was taken
@@ -83,9 +83,9 @@ module _ {X : Type 0} {limits : Limits} {before pauses : ℕ} where
   -- a turn moved nothing, and is not counted
   pub counted_rest : {at : Place X} (later : Place X) (old new : Tally) → IsCounted limits before pauses at old → IsGoing at → IsGoing later → new ≡ old → IsOpen later
       → IsCounted limits before pauses later new
-  counted_rest {at} later old new c going goes same open =
+  counted_rest {at} later old new c going goes same unsettled =
       let never : later ≡ place.Ended Idle → ⊥ = λ is. subst IsGoing is goes in
-      rw same (counted_at c refl (λ is. absurd (never is)) (room_open later old (room_of at old going c.room) open))
+      rw same (counted_at c refl (λ is. absurd (never is)) (room_open later old (room_of at old going c.room) unsettled))
 
   -- the reader gave its next result
   counted_next : {at : Place X} (later : Place X) (old new : Tally) → IsCounted limits before pauses at old → IsBetween at → new ≡ old → IsNext later old.turns

@@ -14,6 +14,7 @@ const IN_A_ROW: u32 = 16;
 /// After how many milliseconds an exchange that waits is looked at again, since its task may wait for something else than its
 /// socket. One more is added for so many exchanges that wait.
 const BEAT: u64 = 10;
+
 const IN_A_MILLISECOND: u64 = 20;
 
 /// How many ticks a connection that has ended is kept for its peer to close it too.

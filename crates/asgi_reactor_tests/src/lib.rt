@@ -3,6 +3,5 @@
 
 #[cfg(test)]
 mod held;
-
 #[cfg(test)]
 mod pace;

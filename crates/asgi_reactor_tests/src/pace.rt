@@ -18,7 +18,14 @@ const ROWS: &[Row] = &[
     ("64 bytes after each 70 ticks", 70, 64, 1, 0, NEVER),
     ("nothing", 1, 0, 1, 0, NEVER),
     ("a request of 27 bytes in each tick", 1, 27, 1, 1, NEVER),
-    ("a request of 27 bytes after each 70 ticks", 70, 27, 1, 1, NEVER),
+    (
+        "a request of 27 bytes after each 70 ticks",
+        70,
+        27,
+        1,
+        1,
+        NEVER,
+    ),
 ];
 
 /// In which tick the sender of such bytes is too slow.

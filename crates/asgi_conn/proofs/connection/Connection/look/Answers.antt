@@ -1,4 +1,4 @@
-use Rattle.std.proofs.Common.{refl, ap}
+use Rattle.std.proofs.Common.{refl}
 use Rattle.asgi_conn.specs.Places.{place_of}
 use Rattle.asgi_conn.proofs.TurnLemmas as lemma
 use Rattle.asgi_conn.proofs.connection.Connection.look.Goals as goal
@@ -25,7 +25,7 @@ pub returns-in-Nothing-clause-stands : goal.returns-in-Nothing-clause-stands
 returns-in-Nothing-clause-stands g c limits start before s =
     let m = c.go_on.ensures.stands limits start before (g.P.Pause.count c.args.pause.now) s in
     record {
-      serving = lemma.turned (ap (λ t. t.exchanges) c.move_on.ensures.tally) (ap (λ t. t.faults) c.move_on.ensures.tally) (c.move_on.ensures.serves c.args.calls.now.app.now limits start m.serving);
+      serving = c.move_on.ensures.serves c.args.calls.now.app.now limits start m.serving;
       counted = lemma.counted_rest (place_of c.move_on.new.self) c.go_on.new.self.tally c.move_on.new.self.tally m.counted c.in-Some.ensures.some.0 c.in-Some.ensures.some.1
           c.move_on.ensures.tally (c.in-Nothing.ensures.nothing refl).1;
     }
