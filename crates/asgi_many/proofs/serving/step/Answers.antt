@@ -10,3 +10,8 @@ pub go_on-requires : goal.go_on-requires
 go_on-requires g c =
     let (limits, asked, told, going) = c.requires in
     (limits, asked, told, lemma.goes_on _ _ _ _ _ _ _ limits _ _ asked _ _ told _ _ _ c.wait.ensures.told refl (λ came places holds. holds) going)
+
+pub go_on-requires-in-Tick : goal.go_on-requires-in-Tick
+go_on-requires-in-Tick g c =
+    let (limits, asked, told, going) = c.requires in
+    (limits, asked, told, lemma.goes_on _ _ _ _ _ _ _ limits _ _ asked _ _ told _ _ _ c.wait.ensures.told refl (λ came places holds. holds) going)
