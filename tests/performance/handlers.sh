@@ -4,9 +4,10 @@
 #             `asgi_demo once hello`, and of a program whose handler replies the same. A long run less a short one, divided
 #             by the requests between them. The C library copies by the same instructions whatever the size.
 #   JSON      answers a second to POST requests whose body is 1 KiB of JSON, which is parsed, and sent back as what it was
-#             parsed to: by `Server` of nomtsage with tasks in threads (`InThread`) and in its workers (`in_worker`), four
-#             workers each, and by Debian's uvicorn with its fast parts (httptools and uvloop), in one process. wrk with one
-#             thread, and 1 and 4 connections; by turns, so many rounds of 4 seconds; the median.
+#             parsed to: by `Server` of nomtsage with tasks in threads and in its workers (`in_worker`), four workers each,
+#             and with all connections in one thread (`in_seats`), and by Debian's uvicorn with its fast parts (httptools and
+#             uvloop), in one process. wrk with one thread, and 1, 4 and 64 connections, but for workers 1 and 4; by turns, so
+#             many rounds of 4 seconds; the median.
 # Usage: tests/performance/handlers.sh [ROUNDS [PROGRAM [HANDLERS]]]
 # ROUNDS is 3 unless given. What is not given is proved and built: PROGRAM by `make demo`, HANDLERS from the text below, in a
 # folder of its own over copies of the crates. It needs valgrind, wrk and uvicorn, and installs Debian's where one is missing.
@@ -52,25 +53,37 @@ impl Handler for Speaks {
     }
 }
 
+/// Where tasks run.
+enum How {
+    Threads,
+    Workers,
+    Seats,
+}
+
 fn main(rt: HostRuntime) -> ExitCode {
     match asked(&rt) {
         (0, _) => once(rt),
-        (port, true) => Server::on(port).workers(4).in_worker(&rt).serve(&rt, &Handled::new(Speaks)),
-        (port, false) => Server::on(port).workers(4).serve(&rt, &Handled::new(Speaks)),
+        (port, How::Threads) => Server::on(port).workers(4).serve(&rt, &Handled::new(Speaks)),
+        (port, How::Workers) => Server::on(port).workers(4).in_worker(&rt).serve(&rt, &Handled::new(Speaks)),
+        (port, How::Seats) => Server::on(port).in_seats(1_000).serve(&rt, &Handled::new(Speaks)),
     }
 }
 
-/// The port, 0 for none, and whether a third word is there.
-fn asked<H: Env + AllocGlobal>(rt: &H) -> (u16, bool) {
+/// The port, 0 for none, and where tasks run.
+fn asked<H: Env + AllocGlobal>(rt: &H) -> (u16, How) {
     let Ok(mut words) = env::args(rt) else {
-        return (0, false);
+        return (0, How::Threads);
     };
     let _name = words.next();
     let port = match words.next() {
         Some(word) => word.as_str().parse::<u16>().unwrap_or(0),
         None => 0,
     };
-    (port, words.next().is_some())
+    let how = match words.next() {
+        Some(word) => if word.as_str() == "worker" { How::Workers } else { How::Seats },
+        None => How::Threads,
+    };
+    (port, how)
 }
 
 fn once(rt: HostRuntime) -> ExitCode {
@@ -162,13 +175,14 @@ P
 
 listens() { grep -q "0100007F:$(printf %04X "$1") 00000000:0000 0A" /proc/net/tcp; }
 
-# Starts a server, and shows how many answers a second it gives at 1 and at 4 connections.
+# Starts a server, and shows how many answers a second it gives at so many connections, each number a word.
 rates() {
-  local port=$((20000 + RANDOM % 10000)) at
+  local port=$((20000 + RANDOM % 10000)) at counts=$1
+  shift
   "${@/#PORT/$port}" >/dev/null 2>"$folder/errors" &
   job=$!
   for _ in {1..1000}; do ! listens "$port" || break; sleep 0.01; done
-  for at in 1 4; do
+  for at in $counts; do
     wrk -t1 "-c$at" -d4s -s "$folder/post.lua" "http://127.0.0.1:$port/" >"$folder/load"
     ! grep -E 'Socket errors|Non-2xx| 0 requests in' "$folder/load" >&2 || exit 1
     sed -n 's|^Requests/sec: *||p' "$folder/load"
@@ -190,21 +204,27 @@ open(sys.argv[1] + "/post.lua", "w").write("wrk.method = 'POST'\nwrk.headers['Co
 P
   application_text >"$folder/speaks.py"
   for ((round = 0; round < rounds; round++)); do
-    rates "$handlers" PORT | tr '\n' ' ' >>"$folder/threads"
-    rates "$handlers" PORT worker | tr '\n' ' ' >>"$folder/worker"
-    rates /usr/bin/python3 -m uvicorn --workers 1 --no-access-log --http httptools --loop uvloop --port PORT --app-dir "$folder" speaks:app | tr '\n' ' ' >>"$folder/uvicorn"
+    rates '1 4' "$handlers" PORT | tr '\n' ' ' >>"$folder/threads"
+    rates '1 4' "$handlers" PORT worker | tr '\n' ' ' >>"$folder/worker"
+    rates '1 4 64' "$handlers" PORT seats | tr '\n' ' ' >>"$folder/seats"
+    rates '1 4 64' /usr/bin/python3 -m uvicorn --workers 1 --no-access-log --http httptools --loop uvloop --port PORT --app-dir "$folder" speaks:app | tr '\n' ' ' >>"$folder/uvicorn"
   done
   python3 - "$folder" <<'P'
 import statistics, sys
 
-def all_of(name, at):
-    return [float(it) for it in open(f"{sys.argv[1]}/{name}").read().split()][at::2]
+def median(name, at, many):
+    """Of so many figures a round, the one at this place."""
+    figures = [float(it) for it in open(f"{sys.argv[1]}/{name}").read().split()][at::many]
+    return statistics.median(figures)
 
-print("| answers a second to 1 KiB of JSON, median | a handler, tasks in a thread | a handler, in_worker | uvicorn, httptools, uvloop | of uvicorn's: thread, in_worker |")
-print("|---|---|---|---|---|")
-for at, count in enumerate((1, 4)):
-    ours, inside, theirs = (statistics.median(all_of(name, at)) for name in ("threads", "worker", "uvicorn"))
-    print(f"| {count} connection{'s' * (count > 1)} | {ours:,.0f} | {inside:,.0f} | {theirs:,.0f} | {ours / theirs:.1f}, {inside / theirs:.1f} |")
+print("| answers a second to 1 KiB of JSON, median | tasks in a thread | in_worker | in_seats | uvicorn, httptools, uvloop | of uvicorn's: thread, in_worker, in_seats |")
+print("|---|---|---|---|---|---|")
+for at, count in enumerate((1, 4, 64)):
+    ours = [median(name, at, 2) if at < 2 else None for name in ("threads", "worker")] + [median("seats", at, 3)]
+    theirs = median("uvicorn", at, 3)
+    rates = [f"{it:,.0f}" if it else "" for it in (*ours, theirs)]
+    ratios = ", ".join(f"{it / theirs:.1f}" if it else "-" for it in ours)
+    print(f"| {count} connection{'s' * (count > 1)} | {' | '.join(rates)} | {ratios} |")
 P
 }
 
