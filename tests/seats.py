@@ -100,7 +100,8 @@ def drip(line, text, each, pause):
             line.sendall(text[at : at + each])
         except OSError:
             return number
-        if select.select([line], [], [], pause)[0] and not line.recv(1):
+        time.sleep(pause)
+        if select.select([line], [], [], 0)[0] and not line.recv(1, socket.MSG_PEEK):
             return number
     return None
 
