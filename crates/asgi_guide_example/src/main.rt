@@ -34,7 +34,7 @@ fn main(rt: HostRuntime) -> Result<ExitCode, AppFault> {
         }
         App::Pool => {
             let pool = Shared::new(alloc, Pool::new(alloc, rt, 1)?)?;
-            Ok(server.workers(2).serve(&rt, &pool))
+            Ok(server.in_threads().workers(2).serve(&rt, &pool))
         }
         App::Cache => {
             let cache = Shared::new(alloc, Cache::new(alloc, rt)?)?;

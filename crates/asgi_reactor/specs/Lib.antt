@@ -1,2 +1,4 @@
+pub mod private
 pub mod Accepting
 pub mod Holding
+pub mod Pacing

@@ -1,5 +1,7 @@
 //! How slowly a client may send.
-ghost use Rattle.std.specs.Prelude.{◌≡◌, ◌≢◌, ◌≤◌, IsTrue};
+ghost use Rattle.std.specs.Prelude.{◌≡◌, ◌≢◌, ℕ, List, [], None, IsTrue, IsFalse};
+ghost use Rattle.asgi_reactor.specs.Pacing.{Heard, IsSlow, Knows, hears};
+ghost use Rattle.asgi_reactor.specs.private.Reaching.{ReachesTick};
 
 /// For how many ticks a pause between two bytes counts at the most: a client that is served for long may send nothing meanwhile.
 const LONGEST_PAUSE: u64 = 10;
@@ -19,12 +21,21 @@ pub struct Pace {
 }
 
 impl Pace {
-    /// Nothing came yet.
+    /// Nothing came yet, and no exchange has ended.
     pub fn new() -> Self
-        ensures { result.slow ≡ 0 }
+        ensures none { (least : ℕ) → Knows least result [] }
+        ensures exchanges { result.exchanges ≡ 0 }
+    {
+        Pace::after(0)
+    }
+
+    /// Nothing came yet since so many exchanges have ended.
+    fn after(exchanges: u64) -> Self
+        ensures none { (result.heard ≡ None) × (result.slow ≡ 0) }
+        ensures exchanges { result.exchanges ≡ exchanges }
     {
         Pace {
-            exchanges: 0,
+            exchanges,
             heard: None,
             came: 0,
             slow: 0,
@@ -32,7 +43,7 @@ impl Pace {
     }
 
     /// So many bytes have come by this tick since the last call, and so many exchanges have ended. Whether there are as many slow
-    /// ticks as this limit, in which fewer than `least` came: not if an exchange has ended meanwhile.
+    /// ticks as this limit, in which fewer than `least` came: not if an exchange has ended meanwhile, nor if nothing came.
     pub fn is_too_slow(
         &mut self,
         least: u64,
@@ -41,37 +52,51 @@ impl Pace {
         came: u64,
         exchanges: u64,
     ) -> bool
-        ensures slow { IsTrue result → limit ≤ self.new.slow }
+        ensures slow { (ticks : List Heard) → Knows least self.old ticks → IsTrue result → IsSlow least limit (hears ticks now came) }
+        ensures well { (ticks : List Heard) → Knows least self.old ticks → exchanges ≡ self.old.exchanges → came ≢ 0 → IsFalse result
+            → ¬ IsSlow least limit (hears ticks now came) }
         ensures heard { IsTrue result → came ≢ 0 }
         ensures one { IsTrue result → exchanges ≡ self.old.exchanges }
+        ensures hears { (ticks : List Heard) → Knows least self.old ticks → exchanges ≡ self.old.exchanges → came ≢ 0
+            → Knows least self.new (hears ticks now came) }
+        ensures silent { exchanges ≡ self.old.exchanges → came ≡ 0 → self.new ≡ self.old }
+        ensures begins { exchanges ≢ self.old.exchanges → Knows least self.new [] }
+        ensures exchanges { self.new.exchanges ≡ exchanges }
     {
         if exchanges != self.exchanges {
-            *self = Pace::new();
-            self.exchanges = exchanges;
+            *self = Pace::after(exchanges);
             return false;
         }
         if came == 0 {
             return false;
         }
-        self.hear(now);
+        self.hear(least, now, came);
+        self.came < least && self.slow >= limit
+    }
+
+    /// Some bytes have come by this tick.
+    fn hear(&mut self, least: u64, now: u64, came: u64)
+        ensures hears { (ticks : List Heard) → Knows least self.old ticks → Knows least self.new (hears ticks now came) }
+        ensures exchanges { self.new.exchanges ≡ self.old.exchanges }
+    {
+        self.reach(now);
         self.came = self.came.saturating_add(came);
         if self.came >= least {
             self.slow = 0;
-            return false;
         }
-        self.slow >= limit
     }
 
-    /// Some bytes have come in this tick.
-    fn hear(&mut self, now: u64)
-        ensures { self.new.exchanges ≡ self.old.exchanges }
+    /// It is this tick now, in which nothing has come yet if it is a new one.
+    fn reach(&mut self, now: u64)
+        ensures reaches { ReachesTick now self.old self.new }
+        ensures exchanges { self.new.exchanges ≡ self.old.exchanges }
     {
         if let Some(last) = self.heard {
-            let pause = now.saturating_sub(last);
-            if pause == 0 {
+            if now <= last {
                 return;
             }
-            self.slow = self.slow.saturating_add(pause.min(LONGEST_PAUSE));
+            let pause = (now - last).min(LONGEST_PAUSE);
+            self.slow = self.slow.saturating_add(pause);
         }
         self.heard = Some(now);
         self.came = 0;

@@ -24,7 +24,7 @@ fn main(rt: HostRuntime) -> Result<ExitCode, AllocError> {
         http: Handled::new(Page),
         ws: Hosted::new(alloc, Chat { rt, texts })?,
     };
-    let server = Server::on(port).in_seats(1_000).connections(count);
+    let server = Server::on(port).connections(count);
     Ok(server.log_connections(&rt).serve(&rt, &app))
 }
 

@@ -15,8 +15,7 @@ fn main(rt: HostRuntime) -> Result<ExitCode, RouteError> {
         return Ok(ExitCode::from(2));
     };
     let app = Shared::new(rt.alloc(), table(rt.alloc())?)?;
-    // No endpoint blocks, so each runs in the worker of its connection.
-    let server = Server::on(port).connections(count).in_worker(&rt);
+    let server = Server::on(port).connections(count);
     Ok(server.log_connections(&rt).serve(&rt, &app))
 }
 

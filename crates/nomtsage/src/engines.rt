@@ -3,7 +3,7 @@ use asgi_conn::Host;
 use asgi_server::InlineStation;
 use std::marker::PhantomData;
 
-/// Each in a thread beside its connection's worker, which is kept for all of them.
+/// Each in a thread beside its connection's worker, which is kept for all of that worker's tasks.
 #[derive(Clone, Copy, Debug)]
 pub struct InThread;
 
@@ -18,6 +18,13 @@ pub struct InWorker<G> {
 pub struct InSeats {
     pub(crate) seats: usize,
 }
+
+/// That a server has workers, each of which serves one connection at a time.
+pub trait HasWorkers {}
+
+impl HasWorkers for InThread {}
+
+impl<G> HasWorkers for InWorker<G> {}
 
 impl<R: Host> InWorker<InlineStation<R>> {
     /// With the engine that a server has for this.

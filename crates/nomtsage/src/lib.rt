@@ -100,6 +100,7 @@ pub use asgi_types::StateValue;
 pub use asgi_types::WsScope;
 pub use asgi_ws::Line;
 pub use ending::Ending;
+pub use engines::HasWorkers;
 pub use engines::InSeats;
 pub use engines::InThread;
 pub use engines::InWorker;

@@ -4,7 +4,7 @@ ghost use Rattle.asgi_server.specs.Arrivals.{IsLoopbackAt};
 ghost use Rattle.std.specs.Process.{exit_status};
 ghost use Rattle.nomtsage.specs.Running.{IsNumber, IsNumberBy, Ran, Runs, RunsTo, settings, status_of};
 
-use crate::engines::{InSeats, InThread, InWorker};
+use crate::engines::{HasWorkers, InSeats, InThread, InWorker};
 use crate::fault::{ListenFault, ServeError};
 use crate::returning::result_of;
 use crate::serve::{serve_in_worker_on, serve_on};
@@ -27,8 +27,11 @@ use std::time::Clock;
 /// The most workers that a server has.
 const MOST_WORKERS: u64 = 8;
 
-/// A server of one address, which serves one application. Unless set otherwise it has as many workers as there are
-/// processors, at most 8, each with a thread for its tasks, the usual limits, and no end, and tells nobody of its connections.
+/// How many connections a server serves at the same time, unless set otherwise.
+const SEATS: usize = 10_000;
+
+/// A server of one address, which serves one application. Unless set otherwise it serves up to 10,000 connections at the same
+/// time in the thread that calls `run` (`in_seats`), has the usual limits and no end, and tells nobody of its connections.
 #[derive(Drop)]
 pub struct Server<'a, K: Drop, E: Drop, G: Drop> {
     pub(crate) address: SocketAddr,
@@ -41,12 +44,13 @@ pub struct Server<'a, K: Drop, E: Drop, G: Drop> {
     pub(crate) engines: G,
 }
 
-impl<'a> Server<'a, Quiet, Nobody, InThread> {
+impl<'a> Server<'a, Quiet, Nobody, InSeats> {
     /// A server of this port of the loopback address, 127.0.0.1, or of any free one of its ports for 0.
     pub fn on(port: u16) -> Self
         ensures address { IsLoopbackAt port result.address }
         ensures endless { result.count ≡ 2 ^ 64 - 1 }
         ensures unset { (result.workers ≡ None) × (result.stop ≡ None) }
+        ensures seats { result.engines.seats ≡ 10000 }
     {
         Server {
             address: loopback(port),
@@ -56,7 +60,7 @@ impl<'a> Server<'a, Quiet, Nobody, InThread> {
             stop: None,
             on_report: Quiet,
             on_end: Nobody,
-            engines: InThread,
+            engines: InSeats { seats: SEATS },
         }
     }
 
@@ -66,6 +70,7 @@ impl<'a> Server<'a, Quiet, Nobody, InThread> {
         ensures address { result.address ≡ address }
         ensures endless { result.count ≡ 2 ^ 64 - 1 }
         ensures unset { (result.workers ≡ None) × (result.stop ≡ None) }
+        ensures seats { result.engines.seats ≡ 10000 }
     {
         let mut server = Server::on(0);
         server.address = address;
@@ -73,9 +78,9 @@ impl<'a> Server<'a, Quiet, Nobody, InThread> {
     }
 }
 
-impl<'a, K: Drop, E: Drop, G: Drop> Server<'a, K, E, G> {
-    /// With this many workers, 1 to 8, each in a thread of its own: as many connections are served at the same time.
-    /// Another number is an error of `run`.
+impl<'a, K: Drop, E: Drop, G: HasWorkers + Drop> Server<'a, K, E, G> {
+    /// With this many workers, 1 to 8, each in a thread of its own: as many connections are served at the same time. Another
+    /// number is an error of `run`; if none is set there are as many as processors, at most 8.
     pub fn workers(self, count: u64) -> Self
         ensures set { result.workers ≡ Some count }
         ensures others { let was = self.entry in (result.address ≡ was.address) × (result.limits ≡ was.limits) × (result.count ≡ was.count)
@@ -85,7 +90,9 @@ impl<'a, K: Drop, E: Drop, G: Drop> Server<'a, K, E, G> {
         server.workers = Some(count);
         server
     }
+}
 
+impl<'a, K: Drop, E: Drop, G: Drop> Server<'a, K, E, G> {
     /// With these limits of each connection, and of the start and the stop of the application.
     pub fn limits(self, limits: Limits) -> Self
         ensures set { result.limits ≡ limits }
@@ -183,38 +190,29 @@ impl<'a, K: Drop, E: Drop, G: Drop> Server<'a, K, E, G> {
         self.on_end(LogLines::new(rt))
     }
 
-    /// Runs each task in the thread of its connection's worker, with no thread beside it: for applications that never block,
-    /// since a task that does holds up what is written to its client. A task need be neither `Send` nor `'static`.
+    /// Serves by workers, each connection by one of them, and runs each task in a thread beside that one: for applications that
+    /// block. While a task does, its connection still writes what is ready, reads, and comes to its limits, and so do all others;
+    /// but as many connections are served at the same time as there are workers.
+    pub fn in_threads(self) -> Server<'a, K, E, InThread>
+        ensures others { let was = self.entry in (result.address ≡ was.address) × (result.workers ≡ was.workers) × (result.limits ≡ was.limits)
+            × (result.count ≡ was.count) × (result.stop ≡ was.stop) × (result.on_report ≡ was.on_report) × (result.on_end ≡ was.on_end) }
+    {
+        self.with_engines(InThread)
+    }
+
+    /// Serves by workers, each connection by one of them, and runs each task in its worker's own thread: for applications that
+    /// never block, on more than one processor. A task that does holds up what is written to its client. A task need be neither
+    /// `Send` nor `'static`.
     pub fn in_worker<R: Host>(self, rt: &R) -> Server<'a, K, E, InWorker<InlineStation<R>>>
         ensures others { let was = self.entry in (result.address ≡ was.address) × (result.workers ≡ was.workers) × (result.limits ≡ was.limits)
             × (result.count ≡ was.count) × (result.stop ≡ was.stop) × (result.on_report ≡ was.on_report) × (result.on_end ≡ was.on_end) }
     {
-        let Server {
-            address,
-            workers,
-            limits,
-            count,
-            stop,
-            on_report,
-            on_end,
-            engines: _before,
-        } = self;
-        Server {
-            address,
-            workers,
-            limits,
-            count,
-            stop,
-            on_report,
-            on_end,
-            engines: InWorker::of(rt),
-        }
+        self.with_engines(InWorker::of(rt))
     }
 
-    /// Serves in the thread that calls `run`, at most `seats` connections at a time, each taken up as soon as its socket is
-    /// ready: for many clients, and applications that never block, since a task that does holds up all of them. There is no
-    /// other thread, and the number of workers has no effect. `on_report` is told of each connection as it ends, under the
-    /// number of its arrival.
+    /// Serves in the thread that calls `run`, at most `seats` connections at a time (else 10,000), each taken up as soon as its
+    /// socket is ready: for many clients, and applications that never block, since a task that does holds up all of them. There
+    /// is no other thread. `on_report` is told of each connection as it ends, under the number of its arrival.
     ///
     /// While no byte moves, an idle turn of a connection takes a second: so many as the limits have 400 idle turns, at least
     /// one; of the usual limits 75.
@@ -223,6 +221,15 @@ impl<'a, K: Drop, E: Drop, G: Drop> Server<'a, K, E, G> {
         ensures others { let was = self.entry in (result.address ≡ was.address) × (result.workers ≡ was.workers) × (result.limits ≡ was.limits)
             × (result.count ≡ was.count) × (result.stop ≡ was.stop) × (result.on_report ≡ was.on_report) × (result.on_end ≡ was.on_end) }
     {
+        self.with_engines(InSeats { seats })
+    }
+
+    /// With this in the place of where its tasks ran.
+    fn with_engines<F: Drop>(self, engines: F) -> Server<'a, K, E, F>
+        ensures set { result.engines ≡ engines }
+        ensures others { let was = self.entry in (result.address ≡ was.address) × (result.workers ≡ was.workers) × (result.limits ≡ was.limits)
+            × (result.count ≡ was.count) × (result.stop ≡ was.stop) × (result.on_report ≡ was.on_report) × (result.on_end ≡ was.on_end) }
+    {
         let Server {
             address,
             workers,
@@ -241,7 +248,7 @@ impl<'a, K: Drop, E: Drop, G: Drop> Server<'a, K, E, G> {
             stop,
             on_report,
             on_end,
-            engines: InSeats { seats },
+            engines,
         }
     }
 }

@@ -27,13 +27,14 @@ fn main(rt: HostRuntime) -> ExitCode {
             return if in_worker {
                 server.in_worker(&rt).serve(&rt, &Hello)
             } else {
-                server.serve(&rt, &Hello)
+                server.in_threads().serve(&rt, &Hello)
             };
         }
         Served::Seated(app) => return seated(&rt, &words, app),
     };
     let stop = Stop::new();
     let server = Server::at(words.address)
+        .in_threads()
         .workers(words.workers)
         .connections(words.count)
         .stop(&stop)
