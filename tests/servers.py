@@ -229,6 +229,14 @@ class Library(unittest.TestCase):
             told = [f"listening on http://127.0.0.1:{port}", "connection 1: 1 requests, finished"]
             self.assertEqual(own.ended(), (told, 0))
 
+    def test_no_connection_is_told_where_nobody_asked(self):
+        for app in ("quiet", "quietworker"):
+            with self.subTest(app=app), Own(app, count=2) as own:
+                port = own.port()
+                for _ in range(2):
+                    self.assertEqual(self.get(port, b"/"), b"hello\n")
+                self.assertEqual(own.ended(), ([f"listening on http://127.0.0.1:{port}"], 0))
+
     def test_each_connection_is_told(self):
         with Own("hello", count=5, workers=8) as own:
             port = own.port()

@@ -17,7 +17,7 @@ fn main(rt: HostRuntime) -> Result<ExitCode, RouteError> {
     let app = Shared::new(rt.alloc(), table(rt.alloc())?)?;
     // No endpoint blocks, so each runs in the worker of its connection.
     let server = Server::on(port).connections(count).in_worker(&rt);
-    Ok(server.serve(&rt, &app))
+    Ok(server.log_connections(&rt).serve(&rt, &app))
 }
 
 /// The port, and after how many connections to end.

@@ -11,11 +11,22 @@ use fails::Fails;
 use nomtsage::{BadLimit, Handled, Hello, Life, Limits, Server, Stop};
 use std::io;
 use std::process::ExitCode;
-use words::{App, usage, words_of};
+use words::{App, Served, usage, words_of};
 
 fn main(rt: HostRuntime) -> ExitCode {
     let Some(words) = words_of(&rt) else {
         return usage(&mut io::writer(&rt));
+    };
+    let app = match words.served {
+        Served::Logged(app) => app,
+        Served::Quiet { in_worker } => {
+            let server = Server::at(words.address).connections(words.count);
+            return if in_worker {
+                server.in_worker(&rt).serve(&rt, &Hello)
+            } else {
+                server.serve(&rt, &Hello)
+            };
+        }
     };
     let stop = Stop::new();
     let server = Server::at(words.address)
@@ -23,7 +34,7 @@ fn main(rt: HostRuntime) -> ExitCode {
         .connections(words.count)
         .stop(&stop)
         .log_connections(&rt);
-    match words.app {
+    match app {
         App::Hello => server.serve(&rt, &Hello),
         App::Ends => server.serve(&rt, &Ends { stop: &stop }),
         App::Fails => server.serve(&rt, &Handled::new(Fails)),

@@ -17,13 +17,22 @@ pub enum App {
     Silent(Silent),
 }
 
+/// What is served, and how.
+#[derive(Clone, Copy, Debug)]
+pub enum Served {
+    /// The application, by a server that logs its connections.
+    Logged(App),
+    /// `Hello`, by a server that tells nobody of its connections, with its tasks in threads or in its workers.
+    Quiet { in_worker: bool },
+}
+
 /// What the words ask for.
 #[derive(Clone, Copy, Debug)]
 pub struct Words {
     pub address: SocketAddr,
     pub count: u64,
     pub workers: u64,
-    pub app: App,
+    pub served: Served,
 }
 
 /// The words after the program's name, if each is there and is one.
@@ -33,13 +42,21 @@ pub fn words_of<H: Env + AllocGlobal>(rt: &H) -> Option<Words> {
     let count = words.next()?.parse::<u64>().ok()?;
     let workers = words.next()?.parse::<u64>().ok()?;
     let name = words.next()?;
-    let app = app_named(name.as_str())?;
+    let served = served_named(name.as_str())?;
     Some(Words {
         address,
         count,
         workers,
-        app,
+        served,
     })
+}
+
+fn served_named(name: &str) -> Option<Served> {
+    match name {
+        "quiet" => Some(Served::Quiet { in_worker: false }),
+        "quietworker" => Some(Served::Quiet { in_worker: true }),
+        _ => Some(Served::Logged(app_named(name)?)),
+    }
 }
 
 fn app_named(name: &str) -> Option<App> {

@@ -16,7 +16,7 @@ fn main(rt: HostRuntime) -> Result<ExitCode, BadLimit> {
     // Bodies of up to 10 MiB, in pieces of up to 64 KiB.
     let limits = Limits::new(16_384, 64, 10 << 20, 65_536, 16, 30_000, 1 << 40)?;
     let server = Server::on(port).connections(count).limits(limits);
-    Ok(server.serve(&rt, &Upload))
+    Ok(server.log_connections(&rt).serve(&rt, &Upload))
 }
 
 /// The port, and after how many connections to end.
