@@ -72,8 +72,7 @@ impl<H: Handler + Copy + Drop> Application for Handled<H> {
     fn call_owned(&self, alloc: Global, scope: Scope) -> Result<HandledTask<H>, AppFault> {
         match scope {
             Scope::Http(request) => self.begin_owned(alloc, request),
-            Scope::WebSocket(session) => deny(alloc, &Scope::WebSocket(session)),
-            Scope::Lifespan(_) => Err(AppFault::Failed),
+            other => self.call(alloc, &other),
         }
     }
 }

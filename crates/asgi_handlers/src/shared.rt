@@ -104,8 +104,7 @@ impl<H: Handler + Drop> Application for Shared<H> {
     fn call_owned(&self, alloc: Global, scope: Scope) -> Result<HandledTask<Held<H>>, AppFault> {
         match scope {
             Scope::Http(request) => self.begin_owned(alloc, request),
-            Scope::WebSocket(session) => deny(alloc, &Scope::WebSocket(session)),
-            Scope::Lifespan(_) => Err(AppFault::Failed),
+            other => self.call(alloc, &other),
         }
     }
 }

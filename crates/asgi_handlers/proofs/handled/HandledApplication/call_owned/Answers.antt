@@ -1,4 +1,4 @@
-use Rattle.asgi_handlers.proofs.TaskLemmas.{begun_answers, begun_fault, begun_stands, denied_answers, denied_fault, denied_stands}
+use Rattle.asgi_handlers.proofs.TaskLemmas.{begun_answers, begun_fault, begun_stands}
 use Rattle.asgi_handlers.proofs.handled.HandledApplication.call_owned.Goals as goal
 
 pub returns-in-Http-clause-stands : goal.returns-in-Http-clause-stands
@@ -12,15 +12,3 @@ returns-in-Http-clause-answers g c =
 pub returns-in-Http-clause-fault : goal.returns-in-Http-clause-fault
 returns-in-Http-clause-fault g c =
     begun_fault g.H.Handler.replies c.args.self.now.handler c.begin_owned.result c.args.scope _ c.in-Http.is
-
-pub returns-in-WebSocket-clause-stands : goal.returns-in-WebSocket-clause-stands
-returns-in-WebSocket-clause-stands g c =
-    denied_stands g.H.Handler.replies c.args.self.now.handler c.deny.result c.args.scope c.deny.ensures.denies
-
-pub returns-in-WebSocket-clause-answers : goal.returns-in-WebSocket-clause-answers
-returns-in-WebSocket-clause-answers g c =
-    denied_answers g.H.Handler.replies c.args.self.now.handler c.deny.result c.args.scope _ c.in-WebSocket.is c.deny.ensures.denies
-
-pub returns-in-WebSocket-clause-fault : goal.returns-in-WebSocket-clause-fault
-returns-in-WebSocket-clause-fault g c =
-    denied_fault g.H.Handler.replies c.args.self.now.handler c.deny.result c.args.scope _ c.in-WebSocket.is c.deny.ensures.fault
