@@ -166,10 +166,8 @@ impl<A: Application> Mount<A> {
 fn mounted(alloc: Global, prefix: &str, scope: Scope) -> Result<Scope, AllocError>
     ensures { IfOk result (λ made. made ≡ mounted_scope prefix.now scope) }
 {
-    match joined(alloc, root_path(&scope), prefix) {
-        Ok(root_path) => Ok(under(scope, root_path)),
-        Err(e) => Err(e),
-    }
+    let root_path = joined(alloc, root_path(&scope), prefix)?;
+    Ok(under(scope, root_path))
 }
 
 fn root_path(scope: &Scope) -> &str
