@@ -106,7 +106,11 @@ where
         task_of(alloc, self.talker, scope)
     }
 
-    fn call_owned(&self, alloc: Global, scope: Scope) -> Result<TalkedTask<T, T::Session>, AppFault> {
+    fn call_owned(
+        &self,
+        alloc: Global,
+        scope: Scope,
+    ) -> Result<TalkedTask<T, T::Session>, AppFault> {
         task_of_owned(alloc, self.talker, scope)
     }
 }
