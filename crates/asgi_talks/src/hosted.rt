@@ -11,7 +11,7 @@ ghost use Rattle.asgi_talks.specs.Sessions.{TalkedAnswers};
 ghost use Rattle.asgi_talks.specs.Talking.{BeginsIn, TaskAnswers, TaskStands};
 
 use crate::opened::Opened;
-use crate::talked::{TalkedTask, begin, begin_with, deny};
+use crate::talked::{TalkedTask, begin, begin_with, deny, is_session};
 use crate::talker::{Talker, Tells};
 use asgi_apps::{AppFault, Application};
 use asgi_types::{Scope, WsScope};
@@ -147,11 +147,10 @@ fn task_in_owned<T: Talker<Session = S> + Drop, S: Tells>(
     ensures failed { IsErrOf result AppFault.Failed → kind_of scope ≡ kind.Lifespan }
     ensures fault { OnErr result (TalkedAnswers T.opens S.answers S.tells S.fails hosted.now scope [] [] (Some Faulted)) }
 {
-    match scope {
-        Scope::Http(_) => deny(alloc, &scope),
-        Scope::WebSocket(_) => begin_shared_owned(alloc, hosted, scope),
-        Scope::Lifespan(_) => Err(AppFault::Failed),
+    if is_session(&scope) {
+        return begin_shared_owned(alloc, hosted, scope);
     }
+    task_in(alloc, hosted, &scope)
 }
 
 /// A task of the session of this scope. `NoMemory` if memory for its copy is refused.

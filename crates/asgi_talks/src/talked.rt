@@ -1,5 +1,5 @@
 //! The application of a talker.
-ghost use Rattle.std.specs.Prelude.{◌≡◌, List, [], IfOk, IsOk, OnErr, Option, Some};
+ghost use Rattle.std.specs.Prelude.{◌≡◌, ◌↔◌, List, [], IfOk, IsOk, IsTrue, OnErr, Option, Some};
 ghost use Rattle.std.specs.Result.{IsErrOf};
 ghost use Rattle.asgi_types.specs.declared.incoming.Incoming.{Incoming};
 ghost use Rattle.asgi_types.specs.declared.outgoing.Outgoing.{Outgoing};
@@ -150,10 +150,20 @@ fn task_of_owned<T: Talker<Session = S> + Copy + Drop, S: Tells>(
     ensures fault { OnErr result (TalkedAnswers T.opens S.answers S.tells S.fails talker scope [] [] (Some Faulted)) }
     ensures memory { kind_of scope ≡ kind.WebSocket → IsOk result }
 {
+    if is_session(&scope) {
+        return begin_with(alloc, talker, scope);
+    }
+    task_of(alloc, talker, &scope)
+}
+
+/// Whether the scope is a session's.
+pub fn is_session(scope: &Scope) -> bool
+    ensures { IsTrue result ↔ (kind_of scope.now ≡ kind.WebSocket) }
+{
     match scope {
-        Scope::Http(_) => deny(alloc, &scope),
-        Scope::WebSocket(_) => begin_with(alloc, talker, scope),
-        Scope::Lifespan(_) => Err(AppFault::Failed),
+        Scope::Http(_) => false,
+        Scope::WebSocket(_) => true,
+        Scope::Lifespan(_) => false,
     }
 }
 

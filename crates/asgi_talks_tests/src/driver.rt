@@ -102,7 +102,11 @@ fn agreed(lent: Result<bool, AppFault>, given: Result<bool, AppFault>) -> Result
     if let Err(AppFault::NoMemory(_)) = given {
         return given;
     }
-    if lent == given { lent } else { Ok(false) }
+    if (lent, 0) == (given, 0) {
+        lent
+    } else {
+        Ok(false)
+    }
 }
 
 // What a task is given is made, and asked for again if memory was refused.
