@@ -46,7 +46,7 @@ WAITED_FOR = ["EMFILE", "ENFILE", "ENOBUFS", "ENOMEM"]
 LASTING = ["EBADF", "EINVAL", "ENOTSOCK", "EFAULT"]
 FAULT = "device fault\n"
 # How long another client may have to wait for one that holds the server: it is 9 seconds for a pong that is not taken.
-HELD = 20
+HELD = 45
 # "Any client that is refused gets its answer": the largest body that is taken, and more than that.
 MEBIBYTE = 1 << 20
 # A ping with a payload of 125 bytes, masked by zeros.

@@ -54,6 +54,7 @@ impl Handler for Speaks {
 }
 
 /// Where tasks run.
+#[derive(Clone, Copy)]
 enum How {
     Threads,
     Workers,
