@@ -85,8 +85,10 @@ impl<R: RoomList> Rooms<R> {
         ensures failed { IsErrOf result AppFault.Failed → FailsWith (R.fails self.now.rooms pattern scope.now)
             (walk params.now.pattern.now params.now.text.now params.now.path.now params.now.names.now 0 0) }
     {
-        let texts = texts_of(alloc, params)?;
-        self.rooms.open(alloc, pattern, scope, texts.as_slice())
+        match texts_of(alloc, params) {
+            Ok(texts) => self.rooms.open(alloc, pattern, scope, texts.as_slice()),
+            Err(e) => Err(AppFault::NoMemory(e)),
+        }
     }
 }
 

@@ -6,7 +6,7 @@ use Rattle.asgi_routes.proofs.room_chain.RoomChainRoomList.open.Goals as goal
 
 pub returns-in_err-open-clause-failed : goal.returns-in_err-open-clause-failed
 returns-in_err-open-clause-failed g c h =
-    let p = err_from_is_err_and c.from_residual-in_err-open.result c.from_residual-in_err-open.ensures.1 in
+    let p = err_from_is_err_and c.from_residual.result c.from_residual.ensures.1 in
     let same : c.args.self.now.pattern ≡ c.args.pattern = omega arith in
     subst (λ (is_own : Bool). FailsAt is_own (g.A.Room.fails c.args.self.now.room c.args.scope.now (params_of c.args.params.now))
     (g.R.RoomList.fails c.args.self.now.rest c.args.pattern c.args.scope.now (params_of c.args.params.now)))
