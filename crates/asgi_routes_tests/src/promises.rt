@@ -67,6 +67,9 @@ impl Room for Keeps {
     // The session is accepted with the part of the path that the parameter took.
     ghost opens = { λ _ _ params opened. IfSome (param_in params (codes "name")) (λ part. opened ≡ Accepted None [] (record { name = part })) };
 
+    // It does not fail.
+    ghost fails = { λ _ _ _. ⊥ };
+
     fn open(
         &self,
         alloc: Global,
