@@ -7,6 +7,6 @@ use Rattle.asgi_apps.proofs.ws_echo.SessionAppTask.poll.Goals.{then-is_none+in-R
 pub returns-clause-end : goal.returns-clause-end
 returns-clause-end g c = elim c.if-is_none.branch [
   | then-is_none+in-Ready-true w ↦
-    goes_further g.E.AppEnd None None c.args.end.now c.if-is_none.end c.tell.new.end (rw w.end-is w.listen.ensures.end) c.tell.ensures.end
+      goes_further g.E.AppEnd None None c.args.end.now c.if-is_none.end c.tell.new.end (rw w.end-is w.listen.ensures.end) c.tell.ensures.end
   | else-is_none w ↦ rw (sym w.end-is) c.tell.ensures.end
 ]
