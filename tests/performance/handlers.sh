@@ -64,8 +64,8 @@ enum How {
 fn main(rt: HostRuntime) -> ExitCode {
     match asked(&rt) {
         (0, _) => once(rt),
-        (port, How::Threads) => Server::on(port).workers(4).serve(&rt, &Handled::new(Speaks)),
-        (port, How::Workers) => Server::on(port).workers(4).in_worker(&rt).serve(&rt, &Handled::new(Speaks)),
+        (port, How::Threads) => Server::on(port).in_threads().workers(4).serve(&rt, &Handled::new(Speaks)),
+        (port, How::Workers) => Server::on(port).in_worker(&rt).workers(4).serve(&rt, &Handled::new(Speaks)),
         (port, How::Seats) => Server::on(port).in_seats(1_000).serve(&rt, &Handled::new(Speaks)),
     }
 }
