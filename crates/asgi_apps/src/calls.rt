@@ -31,16 +31,16 @@ impl<'a, A: Application> Calls<'a, A> {
         }
     }
 
-    /// Calls the application with the scope.
-    pub fn call(&mut self, alloc: Global, scope: &Scope) -> Result<A::Task, AppFault>
-        ensures once { self.new.scopes.items ≡ self.old.scopes.items ++ scope.now ∷ [] }
+    /// Calls the application with the scope, which it may keep.
+    pub fn call(&mut self, alloc: Global, scope: Scope) -> Result<A::Task, AppFault>
+        ensures once { self.new.scopes.items ≡ self.old.scopes.items ++ scope ∷ [] }
         ensures app { self.new.app.now ≡ self.old.app.now }
-        ensures stands { IfOk result (λ task. A.Task.stands task (kind_of scope.now) [] []) }
-        ensures answers { IfOk result (λ task. (heard : List Incoming) (said : List Outgoing) (ended : Option EndKind) → A.Task.answers task heard said ended → A.answers self.old.app.now scope.now heard said ended) }
-        ensures failed { IsErrOf result AppFault.Failed → A.refuses self.old.app.now scope.now }
-        ensures fault { OnErr result (A.answers self.old.app.now scope.now [] [] (Some Faulted)) }
+        ensures stands { IfOk result (λ task. A.Task.stands task (kind_of scope) [] []) }
+        ensures answers { IfOk result (λ task. (heard : List Incoming) (said : List Outgoing) (ended : Option EndKind) → A.Task.answers task heard said ended → A.answers self.old.app.now scope heard said ended) }
+        ensures failed { IsErrOf result AppFault.Failed → A.refuses self.old.app.now scope }
+        ensures fault { OnErr result (A.answers self.old.app.now scope [] [] (Some Faulted)) }
     {
-        self.scopes = History::with(&self.scopes, scope);
-        self.app.call(alloc, scope)
+        self.scopes = History::with(&self.scopes, &scope);
+        self.app.call_owned(alloc, scope)
     }
 }

@@ -1,8 +1,12 @@
 //! The application that sends each request's body back.
-ghost use Rattle.std.specs.Prelude.{◌≡◌, ◌∷◌, [], None, Some, true, IfOk};
+ghost use Rattle.std.specs.Prelude.{◌≡◌, ◌∷◌, [], None, Some, true, false, IfOk};
 ghost use Rattle.std.specs.Result.{IsErrOf};
+ghost use Rattle.futures.specs.Poll.{IfReady, OnPending};
+ghost use Rattle.futures.specs.Task.{IsArmed, Keeps};
+ghost use Rattle.asgi_types.specs.declared.end_kind.EndKind.{EndKind};
 ghost use Rattle.asgi_types.specs.declared.scope.Kind.TheVariants as kind;
 ghost use Rattle.asgi_apps.specs.Answers.{start_of};
+ghost use Rattle.asgi_apps.specs.Ends.{GoesOn};
 ghost use Rattle.asgi_apps.specs.Scopes.{kind_of};
 
 use crate::echoing::{receive, say};
@@ -91,13 +95,40 @@ impl AppTask for EchoTask {
     ghost answers = { λ task heard said ended. EchoAnswers task.kind heard said ended };
 
     fn poll<E: AppEnd>(&mut self, cx: &mut Context<'_>, end: &mut E) -> Poll<Result<(), AppFault>> {
-        if let Some(event) = self.waiting.take() {
-            self.waiting = say(cx, end, event);
-            return Poll::Pending;
+        if self.waiting.is_none() {
+            if !self.listens {
+                return Poll::Ready(Ok(()));
+            }
+            match self.listen(cx, end) {
+                Poll::Pending => return Poll::Pending,
+                Poll::Ready(false) => return Poll::Ready(Ok(())),
+                Poll::Ready(true) => {}
+            }
         }
-        if !self.listens {
-            return Poll::Ready(Ok(()));
-        }
+        self.tell(cx, end);
+        Poll::Pending
+    }
+
+    ghost keeps = { λ task kind heard said stands. (subst (λ answer. Answers answer heard said None) (sym stands.in_order) (option_to_list task.waiting, refl), tt) };
+}
+
+impl EchoTask {
+    ghost use Rattle.asgi_apps.specs.Echo.{EchoAnswers};
+    ghost use Rattle.asgi_apps.specs.Echoing.{Stands};
+
+    /// Receives the next event, whose answer waits then if it has one. Whether the task goes on.
+    fn listen<E: AppEnd>(&mut self, cx: &mut Context<'_>, end: &mut E) -> Poll<bool>
+        requires open { E.ended end.old ≡ None }
+        requires stands { Stands self.old (E.kind end.old) (E.heard end.old) (E.said end.old) }
+        requires free { (self.old.waiting ≡ None) × (self.old.listens ≡ true) }
+        ensures end { GoesOn E.AppEnd None end.old end.new }
+        ensures goes_on { IfReady result (λ goes_on. goes_on ≡ true → Stands self.new (E.kind end.new) (E.heard end.new) (E.said end.new)) }
+        ensures over { IfReady result (λ goes_on. goes_on ≡ false → EchoAnswers self.old.kind (E.heard end.new) (E.said end.new) (Some EndKind.Returned)) }
+        ensures stands { OnPending result (Stands self.new (E.kind end.new) (E.heard end.new) (E.said end.new)) }
+        ensures kind { self.new.kind ≡ self.old.kind }
+        ensures armed { OnPending result (IsArmed cx.new) }
+        ensures kept { Keeps cx.old cx.new }
+    {
         let Poll::Ready(event) = receive(cx, end) else {
             return Poll::Pending;
         };
@@ -105,14 +136,30 @@ impl AppTask for EchoTask {
             Reaction::Says(event, listens) => {
                 self.waiting = Some(event);
                 self.listens = listens;
-                cx.yield_now()
+                Poll::Ready(true)
             }
-            Reaction::Listens => cx.yield_now(),
-            Reaction::Returns => Poll::Ready(Ok(())),
+            Reaction::Listens => Poll::Ready(true),
+            Reaction::Returns => Poll::Ready(false),
         }
     }
 
-    ghost keeps = { λ task kind heard said stands. (subst (λ answer. Answers answer heard said None) (sym stands.in_order) (option_to_list task.waiting, refl), tt) };
+    /// Sends what waits, if anything does, and is to be polled again.
+    fn tell<E: AppEnd>(&mut self, cx: &mut Context<'_>, end: &mut E)
+        requires open { E.ended end.old ≡ None }
+        requires stands { Stands self.old (E.kind end.old) (E.heard end.old) (E.said end.old) }
+        ensures end { GoesOn E.AppEnd None end.old end.new }
+        ensures stands { Stands self.new (E.kind end.new) (E.heard end.new) (E.said end.new) }
+        ensures kind { self.new.kind ≡ self.old.kind }
+        ensures armed { IsArmed cx.new }
+        ensures kept { Keeps cx.old cx.new }
+    {
+        match self.waiting.take() {
+            Some(event) => self.waiting = say(cx, end, event),
+            None => {
+                let _again: Poll<()> = cx.yield_now();
+            }
+        }
+    }
 }
 
 impl Reaction {

@@ -119,31 +119,55 @@ impl<A: Application> Mount<A> {
         ensures failed { IsErrOf result AppFault.Failed → A.refuses self.now.app (mounted_scope self.now.prefix scope.now) }
     {
         match scope {
-            Scope::Http(_) => self.call_under(alloc, scope),
-            Scope::WebSocket(_) => self.call_under(alloc, scope),
+            Scope::Http(_) => self.call_with_copy(alloc, scope),
+            Scope::WebSocket(_) => self.call_with_copy(alloc, scope),
             Scope::Lifespan(_) => self.app.call(alloc, scope),
         }
     }
 
-    fn call_under(&self, alloc: Global, scope: &Scope) -> Result<A::Task, AppFault>
+    /// The same for a scope that the caller gives away: only its `root_path` takes memory.
+    pub fn call_owned(&self, alloc: Global, scope: Scope) -> Result<A::Task, AppFault>
+        ensures stands { IfOk result (λ task. A.Task.AppTask.stands task (kind_of scope) [] []) }
+        ensures answers { IfOk result (λ task. (heard : List Incoming) (said : List Outgoing) (ended : Option EndKind) → A.Task.AppTask.answers task heard said ended → A.answers self.now.app (mounted_scope self.now.prefix scope) heard said ended) }
+        ensures failed { IsErrOf result AppFault.Failed → A.refuses self.now.app (mounted_scope self.now.prefix scope) }
+    {
+        match scope {
+            Scope::Http(_) => self.call_under(alloc, scope),
+            Scope::WebSocket(_) => self.call_under(alloc, scope),
+            Scope::Lifespan(_) => self.app.call_owned(alloc, scope),
+        }
+    }
+
+    /// Calls the application in a copy of the scope, with the prefix added.
+    fn call_with_copy(&self, alloc: Global, scope: &Scope) -> Result<A::Task, AppFault>
         ensures stands { IfOk result (λ task. A.Task.AppTask.stands task (kind_of scope.now) [] []) }
         ensures answers { IfOk result (λ task. (heard : List Incoming) (said : List Outgoing) (ended : Option EndKind) → A.Task.AppTask.answers task heard said ended → A.answers self.now.app (mounted_scope self.now.prefix scope.now) heard said ended) }
         ensures failed { IsErrOf result AppFault.Failed → A.refuses self.now.app (mounted_scope self.now.prefix scope.now) }
     {
+        match scope.copy(alloc) {
+            Ok(copied) => self.call_under(alloc, copied),
+            Err(e) => Err(AppFault::NoMemory(e)),
+        }
+    }
+
+    fn call_under(&self, alloc: Global, scope: Scope) -> Result<A::Task, AppFault>
+        ensures stands { IfOk result (λ task. A.Task.AppTask.stands task (kind_of scope) [] []) }
+        ensures answers { IfOk result (λ task. (heard : List Incoming) (said : List Outgoing) (ended : Option EndKind) → A.Task.AppTask.answers task heard said ended → A.answers self.now.app (mounted_scope self.now.prefix scope) heard said ended) }
+        ensures failed { IsErrOf result AppFault.Failed → A.refuses self.now.app (mounted_scope self.now.prefix scope) }
+    {
         match mounted(alloc, self.prefix.as_str(), scope) {
-            Ok(scope) => self.app.call(alloc, &scope),
+            Ok(scope) => self.app.call_owned(alloc, scope),
             Err(e) => Err(AppFault::NoMemory(e)),
         }
     }
 }
 
-/// The scope with the prefix added to `root_path`, in memory of its own.
-fn mounted(alloc: Global, prefix: &str, scope: &Scope) -> Result<Scope, AllocError>
-    ensures { IfOk result (λ made. made ≡ mounted_scope prefix.now scope.now) }
+/// The scope with the prefix added to `root_path`, for which memory is taken.
+fn mounted(alloc: Global, prefix: &str, scope: Scope) -> Result<Scope, AllocError>
+    ensures { IfOk result (λ made. made ≡ mounted_scope prefix.now scope) }
 {
-    let root_path = joined(alloc, root_path(scope), prefix)?;
-    let copied = scope.copy(alloc)?;
-    Ok(under(copied, root_path))
+    let root_path = joined(alloc, root_path(&scope), prefix)?;
+    Ok(under(scope, root_path))
 }
 
 fn root_path(scope: &Scope) -> &str

@@ -125,6 +125,14 @@ impl<A: Application> Application for Mounts<A> {
         let mount = &self.mounts[at];
         Ok(MountTask::Taken(mount.call(alloc, scope)?))
     }
+
+    fn call_owned(&self, alloc: Global, scope: Scope) -> Result<MountTask<A::Task>, AppFault> {
+        let Some(at) = self.taken(&scope) else {
+            return Ok(MountTask::Missing(NotFound.call_owned(alloc, scope)?));
+        };
+        let mount = &self.mounts[at];
+        Ok(MountTask::Taken(mount.call_owned(alloc, scope)?))
+    }
 }
 
 impl<T: AppTask> AppTask for MountTask<T> {

@@ -96,4 +96,15 @@ pub trait Application {
         ensures answers { IfOk result (λ task. (heard : List Incoming) (said : List Outgoing) (ended : Option EndKind) → Self.Task.answers task heard said ended → answers self.now scope.now heard said ended) }
         ensures failed { IsErrOf result AppFault.Failed → refuses self.now scope.now }
         ensures fault { OnErr result (answers self.now scope.now [] [] (Some Faulted)) };
+
+    /// The same for a scope that the caller gives away, as a server does: a task that keeps the scope need not copy it. It is
+    /// `call` unless an application says otherwise.
+    fn call_owned(&self, alloc: Global, scope: Scope) -> Result<Self::Task, AppFault>
+        ensures stands { IfOk result (λ task. Self.Task.stands task (kind_of scope) [] []) }
+        ensures answers { IfOk result (λ task. (heard : List Incoming) (said : List Outgoing) (ended : Option EndKind) → Self.Task.answers task heard said ended → answers self.now scope heard said ended) }
+        ensures failed { IsErrOf result AppFault.Failed → refuses self.now scope }
+        ensures fault { OnErr result (answers self.now scope [] [] (Some Faulted)) }
+    {
+        self.call(alloc, &scope)
+    }
 }

@@ -1,5 +1,9 @@
 //! The application that sends each message of a session back.
-ghost use Rattle.std.specs.Prelude.{◌≡◌, true, not, ◌||◌, [], ◌∷◌, None};
+ghost use Rattle.std.specs.Prelude.{◌≡◌, true, false, not, ◌||◌, [], ◌∷◌, Some, None};
+ghost use Rattle.futures.specs.Poll.{IfReady, OnPending};
+ghost use Rattle.futures.specs.Task.{IsArmed, Keeps};
+ghost use Rattle.asgi_types.specs.declared.end_kind.EndKind.{EndKind};
+ghost use Rattle.asgi_apps.specs.Ends.{GoesOn};
 ghost use Rattle.std.specs.Option.{option_to_list};
 ghost use Rattle.asgi_types.specs.declared.scope.Kind.TheVariants as kind;
 ghost use Rattle.asgi_protocol.specs.Verdicts.{is_disconnect};
@@ -89,23 +93,59 @@ impl AppTask for Session {
     ghost answers = { λ _. SessionAnswers };
 
     fn poll<E: AppEnd>(&mut self, cx: &mut Context<'_>, end: &mut E) -> Poll<Result<(), AppFault>> {
-        if let Some(event) = self.waiting.take() {
-            self.waiting = say(cx, end, event);
-            return Poll::Pending;
+        if self.waiting.is_none() {
+            match self.listen(cx, end) {
+                Poll::Pending => return Poll::Pending,
+                Poll::Ready(false) => return Poll::Ready(Ok(())),
+                Poll::Ready(true) => {}
+            }
         }
-        let Poll::Ready(event) = receive(cx, end) else {
-            return Poll::Pending;
-        };
-        if !self.hear(event) {
-            return Poll::Ready(Ok(()));
-        }
-        cx.yield_now()
+        self.tell(cx, end);
+        Poll::Pending
     }
 
     ghost keeps = { λ session kind heard said stands. ((option_to_list session.waiting, stands.in_order), stands.connected) };
 }
 
 impl Session {
+    ghost use Rattle.asgi_apps.specs.WsEcho.{SessionAnswers};
+    ghost use Rattle.asgi_apps.specs.WsEchoing.{SessionStands};
+
+    /// Receives the next event, whose answer waits then. Whether the session goes on.
+    fn listen<E: AppEnd>(&mut self, cx: &mut Context<'_>, end: &mut E) -> Poll<bool>
+        requires open { E.ended end.old ≡ None }
+        requires stands { SessionStands self.old (E.kind end.old) (E.heard end.old) (E.said end.old) }
+        requires free { self.old.waiting ≡ None }
+        ensures end { GoesOn E.AppEnd None end.old end.new }
+        ensures goes_on { IfReady result (λ goes_on. goes_on ≡ true → SessionStands self.new (E.kind end.new) (E.heard end.new) (E.said end.new)) }
+        ensures over { IfReady result (λ goes_on. goes_on ≡ false → SessionAnswers (E.heard end.new) (E.said end.new) (Some EndKind.Returned)) }
+        ensures stands { OnPending result (SessionStands self.new (E.kind end.new) (E.heard end.new) (E.said end.new)) }
+        ensures armed { OnPending result (IsArmed cx.new) }
+        ensures kept { Keeps cx.old cx.new }
+    {
+        let Poll::Ready(event) = receive(cx, end) else {
+            return Poll::Pending;
+        };
+        Poll::Ready(self.hear(event))
+    }
+
+    /// Sends what waits, if anything does, and is to be polled again.
+    fn tell<E: AppEnd>(&mut self, cx: &mut Context<'_>, end: &mut E)
+        requires open { E.ended end.old ≡ None }
+        requires stands { SessionStands self.old (E.kind end.old) (E.heard end.old) (E.said end.old) }
+        ensures end { GoesOn E.AppEnd None end.old end.new }
+        ensures stands { SessionStands self.new (E.kind end.new) (E.heard end.new) (E.said end.new) }
+        ensures armed { IsArmed cx.new }
+        ensures kept { Keeps cx.old cx.new }
+    {
+        match self.waiting.take() {
+            Some(event) => self.waiting = say(cx, end, event),
+            None => {
+                let _again: Poll<()> = cx.yield_now();
+            }
+        }
+    }
+
     /// Makes the event's answer the next to be sent. Returns whether the session goes on.
     fn hear(&mut self, event: Incoming) -> bool
         requires { self.old.waiting ≡ None }

@@ -61,7 +61,16 @@ pub const USUAL: Asked = Asked {
 /// A kind of scope, what is offered, and what is sent.
 pub type Row = (Kind, &'static [Offered], &'static str);
 
-/// A task that is driven within one poll, which is where a context comes from.
+/// How the application is called.
+#[derive(Clone, Copy)]
+enum Way {
+    /// The scope is lent to it.
+    Lent,
+    /// The scope is given to it, as a server does.
+    Given,
+}
+
+/// Tasks that are driven within one poll, which is where a context comes from.
 #[derive(Drop)]
 struct Served<A> {
     alloc: Global,
@@ -74,7 +83,24 @@ impl<A: Application + Drop> Future for Served<A> {
     type Output = Result<bool, AppFault>;
 
     fn poll(&mut self, cx: &mut Context<'_>) -> Poll<Result<bool, AppFault>> {
-        Poll::Ready(serve(self.alloc, cx, &self.app, self.asked, self.row))
+        let lent = serve(self.alloc, cx, &self.app, Way::Lent, self.asked, self.row);
+        let given = serve(self.alloc, cx, &self.app, Way::Given, self.asked, self.row);
+        Poll::Ready(agreed(lent, given))
+    }
+}
+
+/// What both calls gave; if that is not the same, not what the row holds. Want of memory is told in any case.
+fn agreed(lent: Result<bool, AppFault>, given: Result<bool, AppFault>) -> Result<bool, AppFault> {
+    if let Err(AppFault::NoMemory(_)) = lent {
+        return lent;
+    }
+    if let Err(AppFault::NoMemory(_)) = given {
+        return given;
+    }
+    if (lent, 0) == (given, 0) {
+        lent
+    } else {
+        Ok(false)
     }
 }
 
@@ -244,13 +270,17 @@ fn pair_of(alloc: Global, kind: Kind, offered: &[Offered]) -> Result<Pair, Alloc
 fn task_of<A: Application>(
     alloc: Global,
     app: &A,
+    way: Way,
     kind: Kind,
     asked: Asked,
 ) -> Result<A::Task, AppFault>
     ensures { IfOk result (λ task. A.Task.stands task kind [] []) }
 {
     let scope = scope_of(alloc, kind, asked);
-    app.call(alloc, &scope)
+    match way {
+        Way::Lent => app.call(alloc, &scope),
+        Way::Given => app.call_owned(alloc, scope),
+    }
 }
 
 /// Calls the application, drives its task, and returns whether the connection takes what the row holds.
@@ -258,13 +288,14 @@ fn serve<A: Application>(
     alloc: Global,
     cx: &mut Context<'_>,
     app: &A,
+    way: Way,
     asked: Asked,
     row: Row,
 ) -> Result<bool, AppFault>
     ensures { Keeps cx.old cx.new }
 {
     let (kind, offered, expected) = row;
-    let task = task_of(alloc, app, kind, asked)?;
+    let task = task_of(alloc, app, way, kind, asked)?;
     let pair = pair_of(alloc, kind, offered)?;
     Ok(is_told(alloc, cx, task, pair, expected)?)
 }
@@ -420,7 +451,7 @@ fn add(text: &mut Vec<u8>, parts: &[&[u8]]) -> Result<(), AllocError> {
     Ok(())
 }
 
-/// Whether the application sends what the row holds, or its fault.
+/// Whether the application sends what the row holds, or its fault, however it is called.
 pub fn run<R: RandomSource + AllocGlobal, A: Application + Drop>(
     rt: &R,
     app: A,

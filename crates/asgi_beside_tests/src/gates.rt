@@ -135,6 +135,12 @@ impl<A: Application> Application for Held<A> {
         let task = self.app.call(alloc, scope)?;
         Ok(HeldTask { gate, task })
     }
+
+    fn call_owned(&self, alloc: Global, scope: Scope) -> Result<HeldTask<A::Task>, AppFault> {
+        let gate = self.gate.again()?;
+        let task = self.app.call_owned(alloc, scope)?;
+        Ok(HeldTask { gate, task })
+    }
 }
 
 impl<T: AppTask> AppTask for HeldTask<T> {

@@ -74,9 +74,9 @@ impl<X> Connection<X> {
                     return self.end_with(Outcome::NoMemory);
                 };
                 if let Framing::Upgrade = facts.framing {
-                    return self.open(&scope, facts, calls, line, runner);
+                    return self.open(scope, facts, calls, line, runner);
                 }
-                self.answer(&scope, facts, calls, line, runner);
+                self.answer(scope, facts, calls, line, runner);
             }
             Ok(Next::Event(_)) => unreachable!(),
             Ok(Next::Whole) => unreachable!(),

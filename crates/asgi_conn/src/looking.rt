@@ -13,6 +13,7 @@ ghost use Rattle.asgi_conn.specs.private.Loop.{IsGoing, IsOpen};
 use crate::connection::{Connection, Step};
 use crate::setting::Setting;
 use asgi_apps::{AppTask, Application, Calls};
+use asgi_halves::Piece;
 use asgi_io::{Pause, Turn};
 use asgi_pipes::Pipes;
 use asgi_run::Runner;
@@ -98,6 +99,14 @@ impl<X> Connection<X> {
                 }
             },
         }
+    }
+
+    /// Lets go of the memory that the next read takes anew, for a connection that is silent.
+    pub fn let_go(&mut self)
+        ensures same { self.new ≡ self.old }
+    {
+        let wire = &mut self.half.wire;
+        wire.piece = Piece::new(wire.alloc);
     }
 
     /// Where it stands between two turns, and how many exchanges it has had.

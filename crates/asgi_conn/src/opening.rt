@@ -33,24 +33,24 @@ impl<X> Connection<X> {
     /// Begins the exchange of a request.
     pub(crate) fn answer<A: Application, L: Line, U: Runner<A::Task, Exchange = X>>(
         &mut self,
-        scope: &Scope,
+        scope: Scope,
         facts: Facts,
         calls: &mut Calls<'_, A>,
         line: &mut L,
         runner: &mut U,
     )
         requires free { IsFree (place_of self.old) }
-        requires http { kind_of scope.now ≡ Http }
+        requires http { kind_of scope ≡ Http }
         requires plain { facts.framing ≢ Framing.Upgrade }
         ensures serves { (scene : Scene) (setting : Setting) (read arrived : List ℕ) (tally : Tally)
-            → scope.now ≡ scope_in setting scene.scope → Opens scene (L.state line.old) self.old.half.wire facts read arrived
+            → scope ≡ scope_in setting scene.scope → Opens scene (L.state line.old) self.old.half.wire facts read arrived
             → ArePromisedIn (A.answers calls.old.app.now) setting scene.exchanges → IsTallied tally scene.exchanges
             → IsServing A.Task.answers U.Pipes.Conn.ConnEnd U.Pipes.App.AppEnd U.conn U.began
             (A.answers calls.old.app.now) self.old.half.wire.limits setting scene.start (L.state line.new) tally (place_of self.new) }
         ensures unread { ReadsNone (L.state line.old) (L.state line.new) }
         ensures next { IsNext (place_of self.new) self.old.tally.turns }
         ensures tally { self.new.tally ≡ self.old.tally }
-        ensures called { CallsWith scope.now (place_of self.new) calls.old.scopes.items calls.new.scopes.items }
+        ensures called { CallsWith scope (place_of self.new) calls.old.scopes.items calls.new.scopes.items }
         ensures same { calls.new.app.now ≡ calls.old.app.now }
     {
         let wire = &self.half.wire;
@@ -76,24 +76,24 @@ impl<X> Connection<X> {
     /// Begins the exchange of an opening handshake; the connection ends with it.
     pub(crate) fn open<A: Application, L: Line, U: Runner<A::Task, Exchange = X>>(
         &mut self,
-        scope: &Scope,
+        scope: Scope,
         facts: Facts,
         calls: &mut Calls<'_, A>,
         line: &mut L,
         runner: &mut U,
     )
         requires free { IsFree (place_of self.old) }
-        requires websocket { kind_of scope.now ≡ WebSocket }
+        requires websocket { kind_of scope ≡ WebSocket }
         requires upgrade { facts.framing ≡ Framing.Upgrade }
         ensures serves { (scene : SessionScene) (setting : Setting) (read : List ℕ) (tally : Tally)
-            → scope.now ≡ scope_in setting scene.scope → OpensHandshake scene (L.state line.old) self.old.half.wire facts read
+            → scope ≡ scope_in setting scene.scope → OpensHandshake scene (L.state line.old) self.old.half.wire facts read
             → ArePromisedIn (A.answers calls.old.app.now) setting scene.exchanges → IsTallied tally scene.exchanges
             → IsServing A.Task.answers U.Pipes.Conn.ConnEnd U.Pipes.App.AppEnd U.conn U.began
             (A.answers calls.old.app.now) scene.limits setting scene.start (L.state line.new) tally (place_of self.new) }
         ensures unread { ReadsNone (L.state line.old) (L.state line.new) }
         ensures next { IsNext (place_of self.new) self.old.tally.turns }
         ensures tally { self.new.tally ≡ self.old.tally }
-        ensures called { CallsWith scope.now (place_of self.new) calls.old.scopes.items calls.new.scopes.items }
+        ensures called { CallsWith scope (place_of self.new) calls.old.scopes.items calls.new.scopes.items }
         ensures same { calls.new.app.now ≡ calls.old.app.now }
     {
         let Ok(frames) = self.half.wire.take_frames() else {
@@ -129,18 +129,18 @@ fn begin<A: Application, X, U: Runner<A::Task, Exchange = X>>(
     place: &mut Option<X>,
     wire: &Wire,
     kind: Kind,
-    scope: &Scope,
+    scope: Scope,
     facts: Facts,
     calls: &mut Calls<'_, A>,
     tally: &Tally,
     runner: &mut U,
 ) -> Option<Outcome>
     requires empty { place.old ≡ None }
-    requires kind { kind_of scope.now ≡ kind }
+    requires kind { kind_of scope ≡ kind }
     ensures lacking { IfSome result (λ outcome. IsLacking outcome × (place.new ≡ None)) }
     ensures begun { IfNone result ((exchange : X) × (place.new ≡ Some exchange)
-        × HasBegun A.Task.answers U.Pipes.Conn.ConnEnd U.Pipes.App.AppEnd U.conn U.began (A.answers calls.old.app.now scope.now) kind facts exchange) }
-    ensures called { IfNone result (calls.new.scopes.items ≡ calls.old.scopes.items ++ scope.now ∷ []) }
+        × HasBegun A.Task.answers U.Pipes.Conn.ConnEnd U.Pipes.App.AppEnd U.conn U.began (A.answers calls.old.app.now scope) kind facts exchange) }
+    ensures called { IfNone result (calls.new.scopes.items ≡ calls.old.scopes.items ++ scope ∷ []) }
     ensures uncalled { IfSome result (λ outcome. calls.new.scopes.items ≡ calls.old.scopes.items) }
     ensures same { calls.new.app.now ≡ calls.old.app.now }
 {
@@ -168,14 +168,14 @@ fn without_ends(why: NoEnds) -> Outcome
 fn call<A: Application, E: AppEnd>(
     alloc: Global,
     calls: &mut Calls<'_, A>,
-    scope: &Scope,
+    scope: Scope,
     app_end: E,
 ) -> AppSide<A::Task, E>
     requires fresh { (E.heard app_end ≡ []) × (E.said app_end ≡ []) × (E.ended app_end ≡ None) }
-    requires kind { E.kind app_end ≡ kind_of scope.now }
+    requires kind { E.kind app_end ≡ kind_of scope }
     ensures may { MayRun A.Task.stands E.AppEnd result }
-    ensures opens { IsOpened (A.answers calls.old.app.now scope.now) A.Task.answers E.AppEnd app_end result }
-    ensures once { calls.new.scopes.items ≡ calls.old.scopes.items ++ scope.now ∷ [] }
+    ensures opens { IsOpened (A.answers calls.old.app.now scope) A.Task.answers E.AppEnd app_end result }
+    ensures once { calls.new.scopes.items ≡ calls.old.scopes.items ++ scope ∷ [] }
     ensures same { calls.new.app.now ≡ calls.old.app.now }
 {
     match calls.call(alloc, scope) {

@@ -24,6 +24,11 @@ impl<A: Application> Application for Counted<A> {
         self.calls.fetch_add(1, Ordering::SeqCst);
         self.app.call(alloc, scope)
     }
+
+    fn call_owned(&self, alloc: Global, scope: Scope) -> Result<A::Task, AppFault> {
+        self.calls.fetch_add(1, Ordering::SeqCst);
+        self.app.call_owned(alloc, scope)
+    }
 }
 
 /// What is read, how the connection ends, and how many calls and exchanges there are.

@@ -29,7 +29,7 @@ module _ {H F : Type 0} (replies : H → HttpScope → List ℕ → Reply → Ty
   begun_at (Ok (Handles task)) request is =
       let hears : IsHearing task.body.items task.given.items kind.Http [] [] =
       record { kind_is = refl; connected = refl; not_whole = refl; body_is = is.2; uncalled = is.3; silent = refl } in
-      subst (λ (o : Option Sending). StandsAt (replies task.asked.handler task.asked.scope) task.body.items task.given.items o kind.Http [] []) (sym is.4) hears
+      subst (λ (o : Option Sending). StandsAt (replies task.asked.handler task.asked.scope.value) task.body.items task.given.items o kind.Http [] []) (sym is.4) hears
   begun_at (Ok (Denies says)) request is = absurd is
   begun_at (Err fault) request is = tt
 
@@ -38,7 +38,7 @@ module _ {H F : Type 0} (replies : H → HttpScope → List ℕ → Reply → Ty
       → HandledAnswers replies handler (Http request) heard said ended)
   begun_promise (Ok (Handles task)) request is = λ heard said ended answers.
       subst (λ (s : HttpScope). AnswersRequest (replies handler s) heard said ended) is.1
-      (subst (λ (h : H). AnswersRequest (replies h task.asked.scope) heard said ended) is.0 answers)
+      (subst (λ (h : H). AnswersRequest (replies h task.asked.scope.value) heard said ended) is.0 answers)
   begun_promise (Ok (Denies says)) request is = absurd is
   begun_promise (Err fault) request is = tt
 

@@ -57,15 +57,15 @@ request_keeps allows body given (Some sending) kind heard said stands =
 
 module _ {H : Type 0} (replies : H → HttpScope → List ℕ → Reply → Type 0) where
   abbrev pub HandlingStands : Handling H → Kind → List Incoming → List Outgoing → Type 0
-  HandlingStands task kind heard said = StandsAt (replies task.asked.handler task.asked.scope) task.body.items task.given.items task.sending kind heard said
+  HandlingStands task kind heard said = StandsAt (replies task.asked.handler task.asked.scope.value) task.body.items task.given.items task.sending kind heard said
 
   abbrev pub HandlingAnswers : Handling H → List Incoming → List Outgoing → Option EndKind → Type 0
-  HandlingAnswers task heard said ended = AnswersRequest (replies task.asked.handler task.asked.scope) heard said ended
+  HandlingAnswers task heard said ended = AnswersRequest (replies task.asked.handler task.asked.scope.value) heard said ended
 
   pub handling_keeps : (task : Handling H) (kind : Kind) (heard : List Incoming) (said : List Outgoing) → HandlingStands task kind heard said
       → HandlingAnswers task heard said None
   handling_keeps task kind heard said stands =
-      request_keeps (replies task.asked.handler task.asked.scope) task.body.items task.given.items task.sending kind heard said stands
+      request_keeps (replies task.asked.handler task.asked.scope.value) task.body.items task.given.items task.sending kind heard said stands
 
   abbrev pub TaskStands : HandledTask H → Kind → List Incoming → List Outgoing → Type 0
   TaskStands (Handles task) kind heard said = HandlingStands task kind heard said
@@ -82,7 +82,7 @@ module _ {H : Type 0} (replies : H → HttpScope → List ℕ → Reply → Type
 
 -- a fresh task of a request, with this handler, in this scope
 abbrev pub Begins : {H : Type 0} → HandledTask H → H → HttpScope → Type 0
-Begins (Handles task) handler scope = (task.asked.handler ≡ handler) × (task.asked.scope ≡ scope) × (task.body.items ≡ []) × (task.given.items ≡ []) × (task.sending ≡ None)
+Begins (Handles task) handler scope = (task.asked.handler ≡ handler) × (task.asked.scope.value ≡ scope) × (task.body.items ≡ []) × (task.given.items ≡ []) × (task.sending ≡ None)
 Begins (Denies says) handler scope = ⊥
 
 -- a fresh task that gives what `NotFound` gives in this scope

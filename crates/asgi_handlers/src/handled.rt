@@ -13,7 +13,7 @@ use asgi_apps::{AppFault, AppTask, Application, NotFound, Says};
 use asgi_pipes::AppEnd;
 use asgi_types::{HttpScope, Scope};
 use futures::task::{Context, Poll};
-use std::alloc::Global;
+use std::alloc::{AllocError, Global};
 
 /// As many bytes as `Limits::usual` lets a body have.
 pub(crate) const USUAL: usize = 1_048_576;
@@ -68,6 +68,13 @@ impl<H: Handler + Copy + Drop> Application for Handled<H> {
             Scope::Lifespan(_) => Err(AppFault::Failed),
         }
     }
+
+    fn call_owned(&self, alloc: Global, scope: Scope) -> Result<HandledTask<H>, AppFault> {
+        match scope {
+            Scope::Http(request) => self.begin_owned(alloc, request),
+            other => self.call(alloc, &other),
+        }
+    }
 }
 
 impl<H: Copy> Handled<H> {
@@ -77,15 +84,33 @@ impl<H: Copy> Handled<H> {
         ensures memory { ¬ (IsErrOf result AppFault.Failed) }
     {
         match scope.copy(alloc) {
-            Ok(copied) => Ok(HandledTask::Handles(Handling::new(
+            Ok(copied) => self.begin_owned(alloc, copied),
+            Err(e) => Err(AppFault::NoMemory(e)),
+        }
+    }
+
+    /// The same with the scope itself. `NoMemory` if memory for a place of it is refused.
+    fn begin_owned(&self, alloc: Global, scope: HttpScope) -> Result<HandledTask<H>, AppFault>
+        ensures begins { IfOk result (λ task. Begins task self.now.handler scope) }
+        ensures memory { ¬ (IsErrOf result AppFault.Failed) }
+    {
+        match boxed(alloc, scope) {
+            Ok(scope) => Ok(HandledTask::Handles(Handling::new(
                 alloc,
                 self.handler,
-                copied,
+                scope,
                 self.max_body,
             ))),
             Err(e) => Err(AppFault::NoMemory(e)),
         }
     }
+}
+
+/// The scope in a place of its own.
+pub(crate) fn boxed(alloc: Global, scope: HttpScope) -> Result<Box<HttpScope>, AllocError>
+    ensures { IfOk result (λ place. place.value ≡ scope) }
+{
+    Ok(Box::new(alloc, scope)?)
 }
 
 /// A task that gives what `NotFound` gives in this scope.

@@ -24,7 +24,8 @@ use std::alloc::Global;
 pub struct Asked<H> {
     alloc: Global,
     handler: H,
-    scope: HttpScope,
+    /// In a place of its own, so that a task is small where it is moved.
+    scope: Box<HttpScope>,
     /// The most bytes of the body.
     max_body: usize,
 }
@@ -56,7 +57,7 @@ pub enum Heard {
 
 impl<H> Handling<H> {
     /// Nothing of the request was received. Takes no memory.
-    pub fn new(alloc: Global, handler: H, scope: HttpScope, max_body: usize) -> Self
+    pub fn new(alloc: Global, handler: H, scope: Box<HttpScope>, max_body: usize) -> Self
         ensures asked { (result.asked.handler ≡ handler) × (result.asked.scope ≡ scope) }
         ensures body { result.body.items ≡ [] }
         ensures given { result.given.items ≡ [] }
@@ -80,7 +81,7 @@ impl<H: Handler> Asked<H> {
     /// What the event is. A part of the body is added to it, and after the last one the handler is
     /// called. The other events do not come in a scope of this kind, and are passed over.
     fn hear(&self, body: &mut Vec<u8>, given: &mut History<Reply>, event: Incoming) -> Heard
-        ensures { Hearing (H.replies self.now.handler self.now.scope) event body.old.items body.new.items given.old.items given.new.items result }
+        ensures { Hearing (H.replies self.now.handler self.now.scope.value) event body.old.items body.new.items given.old.items given.new.items result }
     {
         match event {
             Incoming::HttpRequest {
@@ -103,7 +104,7 @@ impl<H: Handler> Asked<H> {
         part: Octets,
         more_body: bool,
     ) -> Heard
-        ensures { Hearing (H.replies self.now.handler self.now.scope) (Incoming.HttpRequest part more_body) body.old.items body.new.items given.old.items given.new.items result }
+        ensures { Hearing (H.replies self.now.handler self.now.scope.value) (Incoming.HttpRequest part more_body) body.old.items body.new.items given.old.items given.new.items result }
     {
         let added = add(body, part.bytes(), self.max_body);
         self.after_part(added, body.as_slice(), given, more_body)
@@ -117,7 +118,7 @@ impl<H: Handler> Asked<H> {
         given: &mut History<Reply>,
         more_body: bool,
     ) -> Heard
-        ensures ok { OnOk added (Added (H.replies self.now.handler self.now.scope body.now) more_body given.old.items given.new.items result) }
+        ensures ok { OnOk added (Added (H.replies self.now.handler self.now.scope.value body.now) more_body given.old.items given.new.items result) }
         ensures err { OnErr added (IsFailed result) }
     {
         match added {
@@ -128,7 +129,7 @@ impl<H: Handler> Asked<H> {
 
     /// What the part that was added last is.
     fn added(&self, body: &[u8], given: &mut History<Reply>, more_body: bool) -> Heard
-        ensures { Added (H.replies self.now.handler self.now.scope body.now) more_body given.old.items given.new.items result }
+        ensures { Added (H.replies self.now.handler self.now.scope.value body.now) more_body given.old.items given.new.items result }
     {
         if more_body {
             return Heard::More;
@@ -142,7 +143,7 @@ impl<H: Handler> Asked<H> {
     /// The handler's reply to the request with this body, which is recorded. Only this calls the
     /// handler.
     fn reply(&self, body: &[u8], given: &mut History<Reply>) -> Result<Reply, AppFault>
-        ensures allowed { IfOk result (λ reply. H.replies self.now.handler self.now.scope body.now reply) }
+        ensures allowed { IfOk result (λ reply. H.replies self.now.handler self.now.scope.value body.now reply) }
         ensures given { IfOk result (λ reply. given.new.items ≡ given.old.items ++ reply ∷ []) }
     {
         let path = self.scope.path.as_str();

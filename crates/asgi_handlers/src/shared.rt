@@ -5,7 +5,7 @@ ghost use Rattle.asgi_types.specs.declared.scope.Kind.TheVariants as kind;
 ghost use Rattle.asgi_apps.specs.Scopes.{kind_of};
 ghost use Rattle.asgi_handlers.specs.Handling.{Begins};
 
-use crate::handled::{HandledTask, USUAL, deny};
+use crate::handled::{HandledTask, USUAL, boxed, deny};
 use crate::handler::Handler;
 use crate::handling::Handling;
 use crate::reply::Reply;
@@ -100,6 +100,13 @@ impl<H: Handler + Drop> Application for Shared<H> {
             Scope::Lifespan(_) => Err(AppFault::Failed),
         }
     }
+
+    fn call_owned(&self, alloc: Global, scope: Scope) -> Result<HandledTask<Held<H>>, AppFault> {
+        match scope {
+            Scope::Http(request) => self.begin_owned(alloc, request),
+            other => self.call(alloc, &other),
+        }
+    }
 }
 
 impl<H> Shared<H> {
@@ -108,23 +115,38 @@ impl<H> Shared<H> {
         ensures begins { IfOk result (λ task. Begins task self.now.held scope.now) }
         ensures memory { ¬ (IsErrOf result AppFault.Failed) }
     {
-        match self.copies(alloc, scope) {
-            Ok((held, copied)) => Ok(HandledTask::Handles(Handling::new(
+        match scope.copy(alloc) {
+            Ok(copied) => self.begin_owned(alloc, copied),
+            Err(e) => Err(AppFault::NoMemory(e)),
+        }
+    }
+
+    /// The same with the scope itself. `NoMemory` if memory is refused.
+    fn begin_owned(&self, alloc: Global, scope: HttpScope) -> Result<HandledTask<Held<H>>, AppFault>
+        ensures begins { IfOk result (λ task. Begins task self.now.held scope) }
+        ensures memory { ¬ (IsErrOf result AppFault.Failed) }
+    {
+        match self.held_with(alloc, scope) {
+            Ok((held, scope)) => Ok(HandledTask::Handles(Handling::new(
                 alloc,
                 held,
-                copied,
+                scope,
                 self.max_body,
             ))),
             Err(e) => Err(AppFault::NoMemory(e)),
         }
     }
 
-    /// The handler, held once more, and a copy of the scope. `AllocError` if memory is refused.
-    fn copies(&self, alloc: Global, scope: &HttpScope) -> Result<(Held<H>, HttpScope), AllocError>
-        ensures held { IfOk result (λ copies. copies.0 ≡ self.now.held) }
-        ensures scope { IfOk result (λ copies. copies.1 ≡ scope.now) }
+    /// The handler, held once more, and a place of its own for the scope. `AllocError` if memory is refused.
+    fn held_with(
+        &self,
+        alloc: Global,
+        scope: HttpScope,
+    ) -> Result<(Held<H>, Box<HttpScope>), AllocError>
+        ensures held { IfOk result (λ both. both.0 ≡ self.now.held) }
+        ensures scope { IfOk result (λ both. both.1.value ≡ scope) }
     {
-        let copied = scope.copy(alloc)?;
-        Ok((self.held.share()?, copied))
+        let scope = boxed(alloc, scope)?;
+        Ok((self.held.share()?, scope))
     }
 }

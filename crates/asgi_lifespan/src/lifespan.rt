@@ -187,8 +187,7 @@ fn called<A: Application>(alloc: Global, calls: &mut Calls<'_, A>) -> Result<A::
         → A.answers calls.old.app.now lifespan_scope heard said end) }
     ensures fault { OnErr result (A.answers calls.old.app.now lifespan_scope [] [] (Some EndKind.Faulted)) }
 {
-    let scope = scope(alloc);
-    calls.call(alloc, &scope)
+    calls.call(alloc, scope(alloc))
 }
 
 /// The scope that an application is started in.

@@ -25,6 +25,11 @@ impl<A: Application> Application for Counted<A> {
         self.calls.fetch_add(1, Ordering::SeqCst);
         self.app.call(alloc, scope)
     }
+
+    fn call_owned(&self, alloc: Global, scope: Scope) -> Result<A::Task, AppFault> {
+        self.calls.fetch_add(1, Ordering::SeqCst);
+        self.app.call_owned(alloc, scope)
+    }
 }
 
 /// How the start and the stop were answered, and how often the application was called for them.

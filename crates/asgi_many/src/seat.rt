@@ -133,8 +133,20 @@ impl<X, L: Line> Seat<X, L> {
         };
         let (line, pause) = (&mut self.line, &mut self.pause);
         match cause {
-            Cause::Wake => self.connection.look(&setting, calls, line, runner, pause),
-            Cause::Tick => self.connection.turn(&setting, calls, line, runner, pause),
+            Cause::Wake => {
+                let step = self.connection.look(&setting, calls, line, runner, pause);
+                // One that has not asked for anything yet may never do.
+                if self.connection.rest().exchanges == 0 {
+                    self.connection.let_go();
+                }
+                step
+            }
+            Cause::Tick => {
+                let step = self.connection.turn(&setting, calls, line, runner, pause);
+                // It has moved nothing since the tick before, and may stay silent.
+                self.connection.let_go();
+                step
+            }
         }
     }
 

@@ -49,6 +49,29 @@ module _ {R S : Type 0} (allows : R → ℕ → WsScope → List Param → Opene
   RoomsOpen patterns rooms scope opened =
       OpensByMatch rooms (local_path scope.path scope.root_path) (matched patterns (local_path scope.path scope.root_path)) scope opened
 
+-- ---- when a table fails to answer
+
+-- this room's handshakes if the pattern is its own, or else those of the rest
+abbrev pub FailsAt : (is_own : Bool) → Type 0 → Type 0 → Type 0
+FailsAt true own rest = own
+FailsAt false own rest = rest
+
+-- The room of a pattern may fail, with the parts of the path that the parameters of this pattern took.
+pub record FailsWith (fails : List Param → Type 0) (parts : List Param) : Type 0 where
+  pub params : List Param
+  pub taken : AreShown parts params
+  pub failed : fails params
+
+-- by the handshakes that the rooms may fail to answer, each at the pattern of a number
+module _ {R : Type 0} (fails : R → ℕ → WsScope → List Param → Type 0) where
+  -- by the pattern that the path matches; never if it matches none
+  abbrev pub FailsByMatch : R → List ℕ → Option (RouteOf ℕ) → WsScope → Type 0
+  FailsByMatch rooms path None scope = ⊥
+  FailsByMatch rooms path (Some route) scope = FailsWith (fails rooms route.value scope) (parts_of route path)
+
+  abbrev pub RoomsFail : List (List ℕ) → R → WsScope → Type 0
+  RoomsFail patterns rooms scope = FailsByMatch rooms (local_path scope.path scope.root_path) (matched patterns (local_path scope.path scope.root_path)) scope
+
 -- ---- one more room
 
 -- The room was added to the rest, at this pattern.

@@ -1,6 +1,7 @@
 //! What opens the sessions of one pattern.
 ghost use Rattle.std.specs.Prelude.{◌≡◌, List, IfOk, ⊤, bytes_eq};
 ghost use Rattle.std.specs.Option.{option_copied};
+ghost use Rattle.std.specs.Result.{IsErrOf};
 ghost use Rattle.std.specs.List.{find};
 ghost use Rattle.asgi_types.specs.declared.scope.WsScope.{WsScope};
 ghost use Rattle.asgi_handlers.specs.Params.{Param, param_in, params_of};
@@ -20,6 +21,9 @@ pub trait Room {
     // The promise: that the handshake of this scope, with these parameters of its path, was answered so.
     ghost opens: { Self → WsScope → List Param → Opened Self.Session → Type 0 } = { λ _ _ _ _. ⊤ };
 
+    // The handshakes, with these parameters of their paths, that the room may fail to answer by its own judgement.
+    ghost fails: { Self → WsScope → List Param → Type 0 } = { λ _ _ _. ⊤ };
+
     /// The answer to an opening handshake. Each parameter is its name and the part of the path that it
     /// took, in the order of the pattern: see `param_of`. `Failed` by the room's own judgement, `NoMemory`
     /// if memory is refused; then the client gets 500.
@@ -29,7 +33,8 @@ pub trait Room {
         scope: &WsScope,
         params: &[(&str, &str)],
     ) -> Result<Opened<Self::Session>, AppFault>
-        ensures { IfOk result (λ opened. opens self.now scope.now (params_of params.now) opened) };
+        ensures allowed { IfOk result (λ opened. opens self.now scope.now (params_of params.now) opened) }
+        ensures failed { IsErrOf result AppFault.Failed → fails self.now scope.now (params_of params.now) };
 }
 
 /// A room that is borrowed, so that what it holds is shared and not copied.
@@ -37,6 +42,8 @@ impl<R: Room> Room for &R {
     type Session = R::Session;
 
     ghost opens = { λ room. R.opens room.now };
+
+    ghost fails = { λ room. R.fails room.now };
 
     fn open(
         &self,

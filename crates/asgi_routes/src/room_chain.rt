@@ -1,7 +1,7 @@
 //! Rooms of different types, each after those that were added before it.
 ghost use Rattle.std.specs.Prelude.{◌≡◌, ◌==◌};
 ghost use Rattle.asgi_talks.specs.declared.opened.Opened.TheVariants.{Refused};
-ghost use Rattle.asgi_routes.specs.Rooms.{OpensAt, opened_as};
+ghost use Rattle.asgi_routes.specs.Rooms.{FailsAt, OpensAt, opened_as};
 
 use crate::room::Room;
 use crate::room_list::RoomList;
@@ -30,6 +30,8 @@ impl RoomList for NoRooms {
 
     ghost allows = { λ _ _ _ _ opened. opened ≡ Refused };
 
+    ghost fails = { λ _ _ _ _. ⊥ };
+
     fn open(
         &self,
         _alloc: Global,
@@ -46,6 +48,9 @@ impl<A: Room, R: RoomList> RoomList for RoomChain<A, R> {
 
     ghost allows = { λ chain pattern scope params opened. OpensAt (chain.pattern == pattern)
         (A.opens chain.room scope params) (R.allows chain.rest pattern scope params) opened };
+
+    ghost fails = { λ chain pattern scope params. FailsAt (chain.pattern == pattern)
+        (A.fails chain.room scope params) (R.fails chain.rest pattern scope params) };
 
     fn open(
         &self,

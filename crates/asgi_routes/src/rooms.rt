@@ -1,9 +1,10 @@
 //! A table of rooms, which is a talker.
-ghost use Rattle.std.specs.Prelude.{◌≡◌, ◌≢◌, [], None, IfOk, IfErr};
+ghost use Rattle.std.specs.Prelude.{◌≡◌, ◌≢◌, [], None, IfOk, IfErr, IsOk};
 ghost use Rattle.std.specs.Result.{IsErrOf};
 ghost use Rattle.matchit.specs.Params.{walk};
-ghost use Rattle.asgi_routes.specs.Patterns.{IsWhy, place_in};
-ghost use Rattle.asgi_routes.specs.Rooms.{IsRoomAdded, OpensWith};
+ghost use Rattle.asgi_apps.specs.Mounts.{local_path};
+ghost use Rattle.asgi_routes.specs.Patterns.{IsWhy, matched, place_in};
+ghost use Rattle.asgi_routes.specs.Rooms.{FailsWith, IsRoomAdded, OpensWith, RoomsFail, RoomsOpen};
 
 use crate::error::RouteError;
 use crate::path::local_of;
@@ -79,22 +80,31 @@ impl<R: RoomList> Rooms<R> {
         params: &Params<'_, '_>,
         scope: &WsScope,
     ) -> Result<Opened<R::Session>, AppFault>
-        ensures { IfOk result (λ opened. OpensWith (R.allows self.now.rooms pattern scope.now)
+        ensures allowed { IfOk result (λ opened. OpensWith (R.allows self.now.rooms pattern scope.now)
             (walk params.now.pattern.now params.now.text.now params.now.path.now params.now.names.now 0 0) opened) }
+        ensures failed { IsErrOf result AppFault.Failed → FailsWith (R.fails self.now.rooms pattern scope.now)
+            (walk params.now.pattern.now params.now.text.now params.now.path.now params.now.names.now 0 0) }
     {
-        let texts = texts_of(alloc, params)?;
-        self.rooms.open(alloc, pattern, scope, texts.as_slice())
+        match texts_of(alloc, params) {
+            Ok(texts) => self.rooms.open(alloc, pattern, scope, texts.as_slice()),
+            Err(e) => Err(AppFault::NoMemory(e)),
+        }
     }
 }
 
 impl<R: RoomList> Talker for Rooms<R> {
-    ghost use Rattle.asgi_routes.specs.Rooms.{RoomsOpen};
-
     type Session = R::Session;
 
     ghost opens = { λ rooms. RoomsOpen R.allows rooms.table.patterns.items rooms.rooms };
 
-    fn open(&self, alloc: Global, scope: &WsScope) -> Result<Opened<R::Session>, AppFault> {
+    ghost fails = { λ rooms. RoomsFail R.fails rooms.table.patterns.items rooms.rooms };
+
+    fn open(&self, alloc: Global, scope: &WsScope) -> Result<Opened<R::Session>, AppFault>
+        ensures allowed { IfOk result (λ opened. RoomsOpen R.allows self.now.table.patterns.items self.now.rooms scope.now opened) }
+        ensures failed { IsErrOf result AppFault.Failed → RoomsFail R.fails self.now.table.patterns.items self.now.rooms scope.now }
+        // A path that no pattern matches is answered, whatever memory there is.
+        ensures unmatched { matched self.now.table.patterns.items (local_path scope.now.path scope.now.root_path) ≡ None → IsOk result }
+    {
         let path = local_of(scope.path.as_str(), scope.root_path.as_str());
         match self.table.find(path) {
             Ok(found) => self.open_at(alloc, *found.value, &found.params, scope),

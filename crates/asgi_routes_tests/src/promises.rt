@@ -1,6 +1,7 @@
 //! An endpoint that promises which reply it gives, of the parameters of its route, and a room that
 //! promises which session it opens.
-ghost use Rattle.std.specs.Prelude.{◌≡◌, [], IfSome, None, codes};
+ghost use Rattle.std.specs.Prelude.{◌≡◌, [], IfOk, IfSome, None, codes};
+ghost use Rattle.std.specs.Result.{IsErrOf};
 ghost use Rattle.asgi_handlers.specs.Params.{param_in};
 ghost use Rattle.asgi_talks.specs.declared.opened.Opened.TheVariants.{Accepted};
 
@@ -67,6 +68,9 @@ impl Room for Keeps {
     // The session is accepted with the part of the path that the parameter took.
     ghost opens = { λ _ _ params opened. IfSome (param_in params (codes "name")) (λ part. opened ≡ Accepted None [] (record { name = part })) };
 
+    // It does not fail.
+    ghost fails = { λ _ _ _. ⊥ };
+
     fn open(
         &self,
         alloc: Global,
@@ -74,12 +78,23 @@ impl Room for Keeps {
         params: &[(&str, &str)],
     ) -> Result<Opened<Kept>, AppFault> {
         match param_of(params, "name") {
-            Some(part) => {
-                let name = Chars::new(String::from_str(alloc, part)?);
-                Ok(Opened::accept(alloc, Kept { name }))
-            }
+            Some(part) => named(alloc, part),
             None => Ok(Opened::Refused),
         }
+    }
+}
+
+/// A session with this name. Where memory for it is refused, a `?` would not tell which fault it is.
+fn named(alloc: Global, part: &str) -> Result<Opened<Kept>, AppFault>
+    ensures accepted { IfOk result (λ opened. opened ≡ Accepted None [] (record { name = part.now })) }
+    ensures failed { ¬ (IsErrOf result AppFault.Failed) }
+{
+    match String::from_str(alloc, part) {
+        Ok(text) => {
+            let name = Chars::new(text);
+            Ok(Opened::accept(alloc, Kept { name }))
+        }
+        Err(e) => Err(AppFault::NoMemory(e)),
     }
 }
 

@@ -8,6 +8,8 @@ ghost use Rattle.asgi_exchange.specs.Calls.{IsViewOf, IsExchangeOf};
 ghost use Rattle.asgi_exchange.specs.Views.{ConnView};
 ghost use Rattle.asgi_conversation.specs.declared.following.NextStep.TheVariants.{NextRequest};
 ghost use Rattle.asgi_ws.specs.Lines.{LineState};
+ghost use Rattle.asgi_apps.specs.declared.running.Lent.{Lent};
+ghost use Rattle.asgi_apps.specs.declared.running.Running.{Running};
 ghost use Rattle.asgi_run.specs.declared.runner.AppSide.{AppSide};
 ghost use Rattle.asgi_run.specs.declared.runner.NoEnds.TheVariants.{NoMemory};
 ghost use Rattle.asgi_run.specs.AnyHalf.{PreservesOn};
@@ -272,16 +274,29 @@ fn poll<T: AppTask, E: AppEnd>(cx: &mut Context<'_>, side: &mut AppSide<T, E>) -
     match running.turn(cx) {
         Poll::Pending => running.moved(),
         Poll::Ready(kind) => {
-            let Some(lent) = running.lent.take() else {
-                unreachable!()
-            };
-            *side = AppSide::HasEnded {
-                app_end: lent.app_end,
-                kind,
-            };
+            leave(side, kind);
             Turn::Moved
         }
     }
+}
+
+/// Puts how a task has ended in the place of the task. It is out of line, so that a poll which ends nothing makes no room for it.
+#[inline(never)]
+fn leave<T: AppTask, E: AppEnd>(side: &mut AppSide<T, E>, kind: EndKind)
+    requires { (running : Running T E) × (side.old ≡ AppSide.Runs running) × IsSome running.lent }
+    ensures { (running : Running T E) (lent : Lent T E) → side.old ≡ AppSide.Runs running → running.lent ≡ Some lent
+        → side.new ≡ AppSide.HasEnded lent.app_end kind }
+{
+    let AppSide::Runs(running) = side else {
+        unreachable!()
+    };
+    let Some(lent) = running.lent.take() else {
+        unreachable!()
+    };
+    *side = AppSide::HasEnded {
+        app_end: lent.app_end,
+        kind,
+    };
 }
 
 /// The application's end after the exchange, and how its task ended.

@@ -5,7 +5,7 @@ use Rattle.asgi_types.specs.declared.scope.Kind.TheVariants as kind
 use Rattle.asgi_types.specs.declared.scope.HttpScope.{HttpScope}
 use Rattle.asgi_types.specs.declared.scope.WsScope.{WsScope}
 use Rattle.asgi_types.specs.declared.scope.Scope.{Scope}
-use Rattle.asgi_types.specs.declared.scope.Scope.TheVariants.{Http, WebSocket}
+use Rattle.asgi_types.specs.declared.scope.Scope.TheVariants.{Http, WebSocket, Lifespan}
 use Rattle.asgi_types.specs.declared.incoming.Payload.{Payload}
 use Rattle.asgi_types.specs.declared.incoming.Incoming.{Incoming}
 use Rattle.asgi_types.specs.declared.outgoing.Outgoing.{Outgoing}
@@ -20,6 +20,12 @@ use Rattle.asgi_talks.specs.declared.talked.TalkedTask.TheVariants.{Talks, Denie
 use Rattle.asgi_talks.specs.declared.talking.Stage.{Stage}
 use Rattle.asgi_talks.specs.Sessions.{AnswersSession, IsUnopened, TalkedAnswers}
 use Rattle.asgi_talks.specs.Talking.{Begins, BeginsIn, IsDenied, IsWaiting, StandsAt, TaskAnswers, TaskStands}
+
+-- what is a session's scope
+pub session_in : (scope : Scope) → kind_of scope ≡ kind.WebSocket → (session : WsScope) × (scope ≡ WebSocket session)
+session_in (Http request) is = absurd (cc (is))
+session_in (WebSocket session) is = (session, refl)
+session_in (Lifespan life) is = absurd (cc (is))
 
 module _ {T S F : Type 0} (opens : T → WsScope → Opened S → Type 0) (answers : S → Payload → S → Answer → Type 0) (tells : S → S → Answer → Type 0)
     (fails : S → Type 0) (talker : T) where

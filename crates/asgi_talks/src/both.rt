@@ -49,6 +49,18 @@ impl<A: Application, B: Application> Application for Both<A, B> {
             Scope::Lifespan(_) => self.call_http(alloc, scope),
         }
     }
+
+    fn call_owned(
+        &self,
+        alloc: Global,
+        scope: Scope,
+    ) -> Result<BothTask<A::Task, B::Task>, AppFault> {
+        match scope {
+            Scope::Http(_) => self.call_http_owned(alloc, scope),
+            Scope::WebSocket(_) => self.call_ws_owned(alloc, scope),
+            Scope::Lifespan(_) => self.call_http_owned(alloc, scope),
+        }
+    }
 }
 
 impl<A: Application, B: Application> Both<A, B> {
@@ -81,6 +93,44 @@ impl<A: Application, B: Application> Both<A, B> {
         ensures fault { OnErr result (B.answers self.now.ws scope.now [] [] (Some Faulted)) }
     {
         match self.ws.call(alloc, scope) {
+            Ok(task) => Ok(BothTask::WebSocket(task)),
+            Err(e) => Err(e),
+        }
+    }
+
+    /// Gives the scope to the application of requests.
+    fn call_http_owned(
+        &self,
+        alloc: Global,
+        scope: Scope,
+    ) -> Result<BothTask<A::Task, B::Task>, AppFault>
+        ensures stands { IfOk result (λ task. BothStands A.Task.AppTask.stands B.Task.AppTask.stands task (kind_of scope) [] []) }
+        ensures answers { IfOk result (λ task. (heard : List Incoming) (said : List Outgoing) (ended : Option EndKind)
+            → BothAnswers A.Task.AppTask.answers B.Task.AppTask.answers task heard said ended
+            → A.answers self.now.http scope heard said ended) }
+        ensures failed { IsErrOf result AppFault.Failed → A.refuses self.now.http scope }
+        ensures fault { OnErr result (A.answers self.now.http scope [] [] (Some Faulted)) }
+    {
+        match self.http.call_owned(alloc, scope) {
+            Ok(task) => Ok(BothTask::Http(task)),
+            Err(e) => Err(e),
+        }
+    }
+
+    /// Gives the scope to the application of sessions.
+    fn call_ws_owned(
+        &self,
+        alloc: Global,
+        scope: Scope,
+    ) -> Result<BothTask<A::Task, B::Task>, AppFault>
+        ensures stands { IfOk result (λ task. BothStands A.Task.AppTask.stands B.Task.AppTask.stands task (kind_of scope) [] []) }
+        ensures answers { IfOk result (λ task. (heard : List Incoming) (said : List Outgoing) (ended : Option EndKind)
+            → BothAnswers A.Task.AppTask.answers B.Task.AppTask.answers task heard said ended
+            → B.answers self.now.ws scope heard said ended) }
+        ensures failed { IsErrOf result AppFault.Failed → B.refuses self.now.ws scope }
+        ensures fault { OnErr result (B.answers self.now.ws scope [] [] (Some Faulted)) }
+    {
+        match self.ws.call_owned(alloc, scope) {
             Ok(task) => Ok(BothTask::WebSocket(task)),
             Err(e) => Err(e),
         }

@@ -11,7 +11,7 @@ ghost use Rattle.asgi_talks.specs.Sessions.{TalkedAnswers};
 ghost use Rattle.asgi_talks.specs.Talking.{BeginsIn, TaskAnswers, TaskStands};
 
 use crate::opened::Opened;
-use crate::talked::{TalkedTask, begin, deny};
+use crate::talked::{TalkedTask, begin, begin_with, deny, is_session};
 use crate::talker::{Talker, Tells};
 use asgi_apps::{AppFault, Application};
 use asgi_types::{Scope, WsScope};
@@ -60,6 +60,8 @@ impl<T: Talker> Talker for HostedTalker<T> {
 
     ghost opens = { T.opens };
 
+    ghost fails = { T.fails };
+
     fn open(&self, alloc: Global, scope: &WsScope) -> Result<Opened<T::Session>, AppFault> {
         T::open(&*self.talker, alloc, scope)
     }
@@ -101,6 +103,14 @@ where
     ) -> Result<TalkedTask<HostedTalker<T>, T::Session>, AppFault> {
         task_in(alloc, &self.talker, scope)
     }
+
+    fn call_owned(
+        &self,
+        alloc: Global,
+        scope: Scope,
+    ) -> Result<TalkedTask<HostedTalker<T>, T::Session>, AppFault> {
+        task_in_owned(alloc, &self.talker, scope)
+    }
 }
 
 /// The task of the application of this talker in this scope. `NoMemory` if memory for it is refused,
@@ -124,6 +134,25 @@ fn task_in<T: Talker<Session = S> + Drop, S: Tells>(
     }
 }
 
+/// The same with the scope itself: the task of a session keeps it.
+fn task_in_owned<T: Talker<Session = S> + Drop, S: Tells>(
+    alloc: Global,
+    hosted: &HostedTalker<T>,
+    scope: Scope,
+) -> Result<TalkedTask<HostedTalker<T>, S>, AppFault>
+    ensures stands { IfOk result (λ task. TaskStands T.opens S.answers S.tells task (kind_of scope) [] []) }
+    ensures answers { IfOk result (λ task. (heard : List Incoming) (said : List Outgoing) (ended : Option EndKind)
+        → TaskAnswers T.opens S.answers S.tells S.fails task heard said ended
+        → TalkedAnswers T.opens S.answers S.tells S.fails hosted.now scope heard said ended) }
+    ensures failed { IsErrOf result AppFault.Failed → kind_of scope ≡ kind.Lifespan }
+    ensures fault { OnErr result (TalkedAnswers T.opens S.answers S.tells S.fails hosted.now scope [] [] (Some Faulted)) }
+{
+    if is_session(&scope) {
+        return begin_shared_owned(alloc, hosted, scope);
+    }
+    task_in(alloc, hosted, &scope)
+}
+
 /// A task of the session of this scope. `NoMemory` if memory for its copy is refused.
 fn begin_shared<T: Drop, S>(
     alloc: Global,
@@ -135,6 +164,21 @@ fn begin_shared<T: Drop, S>(
 {
     match hosted.share() {
         Ok(talker) => begin(alloc, talker, scope),
+        Err(e) => Err(AppFault::NoMemory(e)),
+    }
+}
+
+/// The same with the scope itself, which the task keeps. `NoMemory` if the talker is held too often.
+fn begin_shared_owned<T: Drop, S>(
+    alloc: Global,
+    hosted: &HostedTalker<T>,
+    scope: Scope,
+) -> Result<TalkedTask<HostedTalker<T>, S>, AppFault>
+    ensures begins { IfOk result (λ task. BeginsIn task hosted.now scope) }
+    ensures failed { IsErrOf result AppFault.Failed → ¬ (kind_of scope ≡ kind.WebSocket) }
+{
+    match hosted.share() {
+        Ok(talker) => begin_with(alloc, talker, scope),
         Err(e) => Err(AppFault::NoMemory(e)),
     }
 }

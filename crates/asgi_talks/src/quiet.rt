@@ -79,6 +79,8 @@ impl<T: Talker> Talker for Hushed<T> {
 
     ghost opens = { T.opens };
 
+    ghost fails = { T.fails };
+
     fn open(&self, alloc: Global, scope: &WsScope) -> Result<Opened<Quiet<T::Session>>, AppFault> {
         match self.talker.open(alloc, scope) {
             Ok(opened) => Ok(hush(opened)),

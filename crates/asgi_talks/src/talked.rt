@@ -1,5 +1,5 @@
 //! The application of a talker.
-ghost use Rattle.std.specs.Prelude.{◌≡◌, List, [], IfOk, OnErr, Option, Some};
+ghost use Rattle.std.specs.Prelude.{◌≡◌, ◌↔◌, List, [], IfOk, IsOk, IsTrue, OnErr, Option, Some};
 ghost use Rattle.std.specs.Result.{IsErrOf};
 ghost use Rattle.asgi_types.specs.declared.incoming.Incoming.{Incoming};
 ghost use Rattle.asgi_types.specs.declared.outgoing.Outgoing.{Outgoing};
@@ -64,6 +64,14 @@ impl<T: Talker + Copy + Drop> Application for Talked<T> {
     ) -> Result<TalkedTask<Hushed<T>, Quiet<T::Session>>, AppFault> {
         task_of(alloc, Hushed::new(self.talker), scope)
     }
+
+    fn call_owned(
+        &self,
+        alloc: Global,
+        scope: Scope,
+    ) -> Result<TalkedTask<Hushed<T>, Quiet<T::Session>>, AppFault> {
+        task_of_owned(alloc, Hushed::new(self.talker), scope)
+    }
 }
 
 /// The application of a talker whose sessions also speak unasked. It does what `Talked` does, and
@@ -97,6 +105,14 @@ where
     fn call(&self, alloc: Global, scope: &Scope) -> Result<TalkedTask<T, T::Session>, AppFault> {
         task_of(alloc, self.talker, scope)
     }
+
+    fn call_owned(
+        &self,
+        alloc: Global,
+        scope: Scope,
+    ) -> Result<TalkedTask<T, T::Session>, AppFault> {
+        task_of_owned(alloc, self.talker, scope)
+    }
 }
 
 /// The task of the application of this talker in this scope. `NoMemory` if memory for it is refused,
@@ -120,6 +136,37 @@ fn task_of<T: Talker<Session = S> + Copy + Drop, S: Tells>(
     }
 }
 
+/// The same with the scope itself: the task of a session keeps it.
+fn task_of_owned<T: Talker<Session = S> + Copy + Drop, S: Tells>(
+    alloc: Global,
+    talker: T,
+    scope: Scope,
+) -> Result<TalkedTask<T, S>, AppFault>
+    ensures stands { IfOk result (λ task. TaskStands T.opens S.answers S.tells task (kind_of scope) [] []) }
+    ensures answers { IfOk result (λ task. (heard : List Incoming) (said : List Outgoing) (ended : Option EndKind)
+        → TaskAnswers T.opens S.answers S.tells S.fails task heard said ended
+        → TalkedAnswers T.opens S.answers S.tells S.fails talker scope heard said ended) }
+    ensures failed { IsErrOf result AppFault.Failed → kind_of scope ≡ kind.Lifespan }
+    ensures fault { OnErr result (TalkedAnswers T.opens S.answers S.tells S.fails talker scope [] [] (Some Faulted)) }
+    ensures memory { kind_of scope ≡ kind.WebSocket → IsOk result }
+{
+    if is_session(&scope) {
+        return begin_with(alloc, talker, scope);
+    }
+    task_of(alloc, talker, &scope)
+}
+
+/// Whether the scope is a session's.
+pub fn is_session(scope: &Scope) -> bool
+    ensures { IsTrue result ↔ (kind_of scope.now ≡ kind.WebSocket) }
+{
+    match scope {
+        Scope::Http(_) => false,
+        Scope::WebSocket(_) => true,
+        Scope::Lifespan(_) => false,
+    }
+}
+
 /// A task of the session of this scope. `NoMemory` if memory for its copy is refused.
 pub fn begin<T: Drop, S>(
     alloc: Global,
@@ -135,14 +182,16 @@ pub fn begin<T: Drop, S>(
     }
 }
 
-/// A task of the session of this scope, which is its own. `Failed` if the scope is no session's.
-fn begin_with<T: Drop, S>(
+/// A task of the session of this scope, which it keeps. Takes no memory. `Failed` if the scope is no
+/// session's.
+pub fn begin_with<T: Drop, S>(
     alloc: Global,
     talker: T,
     scope: Scope,
 ) -> Result<TalkedTask<T, S>, AppFault>
     ensures begins { IfOk result (λ task. BeginsIn task talker scope) }
     ensures failed { IsErrOf result AppFault.Failed → ¬ (kind_of scope ≡ kind.WebSocket) }
+    ensures memory { kind_of scope ≡ kind.WebSocket → IsOk result }
 {
     match scope {
         Scope::WebSocket(copied) => Ok(TalkedTask::Talks(Talking::new(alloc, talker, copied))),

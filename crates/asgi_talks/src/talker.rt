@@ -1,5 +1,6 @@
 //! What opens sessions, and what answers their messages.
 ghost use Rattle.std.specs.Prelude.{IfOk, OnErr, ⊤};
+ghost use Rattle.std.specs.Result.{IsErrOf};
 ghost use Rattle.asgi_types.specs.declared.incoming.Payload.{Payload};
 ghost use Rattle.asgi_types.specs.declared.scope.WsScope.{WsScope};
 ghost use Rattle.asgi_talks.specs.declared.answer.Answer.{Answer};
@@ -49,10 +50,14 @@ pub trait Talker {
     // The promise: that the handshake of this scope was answered so.
     ghost opens: { Self → WsScope → Opened Self.Session → Type 0 } = { λ _ _ _. ⊤ };
 
+    // The handshakes that the talker may fail to answer by its own judgement.
+    ghost fails: { Self → WsScope → Type 0 } = { λ _ _. ⊤ };
+
     /// The answer to an opening handshake. `Failed` by the talker's own judgement, `NoMemory` if
     /// memory is refused; then the client gets 500.
     fn open(&self, alloc: Global, scope: &WsScope) -> Result<Opened<Self::Session>, AppFault>
-        ensures { IfOk result (λ opened. opens self.now scope.now opened) };
+        ensures allowed { IfOk result (λ opened. opens self.now scope.now opened) }
+        ensures failed { IsErrOf result AppFault.Failed → fails self.now scope.now };
 }
 
 /// A talker that is borrowed, so that what it holds is shared and not copied.
@@ -60,6 +65,8 @@ impl<T: Talker> Talker for &T {
     type Session = T::Session;
 
     ghost opens = { λ talker. T.opens talker.now };
+
+    ghost fails = { λ talker. T.fails talker.now };
 
     fn open(&self, alloc: Global, scope: &WsScope) -> Result<Opened<T::Session>, AppFault> {
         T::open(*self, alloc, scope)

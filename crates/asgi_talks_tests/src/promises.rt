@@ -64,6 +64,9 @@ impl Talker for Silent {
     // Each session is accepted before any message.
     ghost opens = { λ _ _ opened. opened ≡ Accepted None [] (record { messages = 0 }) };
 
+    // None is failed.
+    ghost fails = { λ _ _. ⊥ };
+
     fn open(&self, alloc: Global, _scope: &WsScope) -> Result<Opened<Heard>, AppFault> {
         Ok(Opened::accept(alloc, Heard { messages: 0 }))
     }
