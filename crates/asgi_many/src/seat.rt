@@ -133,20 +133,22 @@ impl<X, L: Line> Seat<X, L> {
         };
         let (line, pause) = (&mut self.line, &mut self.pause);
         match cause {
-            Cause::Wake => {
-                let step = self.connection.look(&setting, calls, line, runner, pause);
-                // One that has not asked for anything yet may never do.
-                if self.connection.rest().exchanges == 0 {
-                    self.connection.let_go();
-                }
-                step
-            }
-            Cause::Tick => {
-                let step = self.connection.turn(&setting, calls, line, runner, pause);
-                // It has moved nothing since the tick before, and may stay silent.
-                self.connection.let_go();
-                step
-            }
+            Cause::Wake => self.connection.look(&setting, calls, line, runner, pause),
+            Cause::Tick => self.connection.turn(&setting, calls, line, runner, pause),
+        }
+    }
+
+    /// Lets go of the buffer of a connection of which nothing moved, if it may stay silent: a tick has passed, or it has not asked
+    /// for anything yet.
+    pub(crate) fn rest(&mut self, cause: Cause)
+        ensures same { self.new ≡ self.old }
+    {
+        let is_silent = match cause {
+            Cause::Tick => true,
+            Cause::Wake => self.connection.rest().exchanges == 0,
+        };
+        if is_silent {
+            self.connection.let_go();
         }
     }
 

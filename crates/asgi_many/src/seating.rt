@@ -169,7 +169,10 @@ impl<X, L: Line> Table<X, L> {
         };
         match seat.turn(cause, state, calls, runner) {
             Step::Moved => Turned::Moved,
-            Step::Idle => Turned::Idle,
+            Step::Idle => {
+                seat.rest(cause);
+                Turned::Idle
+            }
             Step::Over(report) => Turned::Over(self.free(at, report)),
         }
     }

@@ -1,4 +1,4 @@
--- How slowly a client sends the bytes of a head or a body.
+-- How slowly a client sends the bytes of a head or a body. No standard measures it: RFC 9110, 15.5.9 leaves to a server how long it waits.
 use Rattle.std.specs.Prelude.{◌≡◌, ◌≤◌, ◌<◌, ◌+◌, ◌-◌, ◌^◌, ℕ, min, List, [], ◌∷◌, Option, Some, None, nat_le, if◌then◌else◌}
 use Rattle.asgi_reactor.specs.declared.pace.Pace.{Pace}
 

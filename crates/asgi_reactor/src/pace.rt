@@ -1,5 +1,5 @@
 //! How slowly a client may send.
-ghost use Rattle.std.specs.Prelude.{◌≡◌, ◌≢◌, ℕ, List, [], None, IsTrue, IsFalse};
+ghost use Rattle.std.specs.Prelude.{◌≡◌, ◌≢◌, ◌≤◌, ℕ, List, [], None, IsTrue, IsFalse};
 ghost use Rattle.asgi_reactor.specs.Pacing.{Heard, IsSlow, Knows, hears};
 ghost use Rattle.asgi_reactor.specs.private.Reaching.{ReachesTick};
 
@@ -55,6 +55,7 @@ impl Pace {
         ensures slow { (ticks : List Heard) → Knows least self.old ticks → IsTrue result → IsSlow least limit (hears ticks now came) }
         ensures well { (ticks : List Heard) → Knows least self.old ticks → exchanges ≡ self.old.exchanges → came ≢ 0 → IsFalse result
             → ¬ IsSlow least limit (hears ticks now came) }
+        ensures limit { IsTrue result → limit ≤ self.new.slow }
         ensures heard { IsTrue result → came ≢ 0 }
         ensures one { IsTrue result → exchanges ≡ self.old.exchanges }
         ensures hears { (ticks : List Heard) → Knows least self.old ticks → exchanges ≡ self.old.exchanges → came ≢ 0

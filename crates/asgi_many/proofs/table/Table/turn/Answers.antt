@@ -26,14 +26,14 @@ returns-in-Moved-clause-turned g c =
 
 pub returns-in-Idle-clause-holds : goal.returns-in-Idle-clause-holds
 returns-in-Idle-clause-holds g c came ended holds =
-    lemma.goes_on _ _ _ _ _ _ _ _ c.args.self.now _ c.args.at refl holds c.in-Some.seat.now c.turn.new.self refl (sym c.in-Some.ensures.value) refl
-    c.turn.ensures.number (c.turn.ensures.at c.args.self.now.limits)
+    lemma.goes_on _ _ _ _ _ _ _ _ c.args.self.now _ c.args.at refl holds c.in-Some.seat.now c.rest.new.self refl (sym c.in-Some.ensures.value) refl
+    (rw c.rest.ensures.same c.turn.ensures.number) (rw c.rest.ensures.same (c.turn.ensures.at c.args.self.now.limits))
 
 pub returns-in-Idle-clause-turned : goal.returns-in-Idle-clause-turned
 returns-in-Idle-clause-turned g c =
     let there = sym c.in-Some.ensures.value in
-    let written = lemma.writes c.args.self.now.seats c.args.at c.in-Some.seat.now c.turn.new.self there in
-    rw (there, written.changed) (c.in-Idle.ensures.idle refl)
+    let written = lemma.writes c.args.self.now.seats c.args.at c.in-Some.seat.now c.rest.new.self there in
+    rw (there, written.changed, c.rest.ensures.same) (c.in-Idle.ensures.idle refl)
 
 pub returns-in-Over-clause-holds : goal.returns-in-Over-clause-holds
 returns-in-Over-clause-holds g c came ended holds =
