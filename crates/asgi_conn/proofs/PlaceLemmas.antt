@@ -1,5 +1,7 @@
 -- With no exchange to be ended: what the fields of a connection say of where it stands.
 use Rattle.std.proofs.Common.{◌≡◌, refl, Option, Some, None}
+use Rattle.std.specs.Prelude.{Box}
+use Rattle.std.specs.declared.alloc.Global.{Global}
 use Rattle.asgi_conversation.specs.declared.report.Outcome.{Outcome}
 use Rattle.asgi_halves.specs.declared.{half.HttpHalf.HttpHalf, session_half.WebSocketHalf.WebSocketHalf}
 use Rattle.asgi_conn.specs.{declared.connection.Connection.Connection, Places.Place, Places.place_at, Places.place_of}
@@ -8,7 +10,7 @@ use Rattle.asgi_conn.specs.private.Loop.{IsBetween, IsDue, IsFree, IsNext}
 use Rattle.asgi_io.specs.declared.turns.Turns.{Turns}
 
 module _ {X : Type 0} where
-  between_at : (exchange : Option X) (session : Option WebSocketHalf) (ended : Option Outcome) (half : HttpHalf) → IsBetween (place_at exchange session ended half)
+  between_at : (exchange : Option X) (session : Option (Box WebSocketHalf Global)) (ended : Option Outcome) (half : HttpHalf) → IsBetween (place_at exchange session ended half)
       → place_at exchange session ended half ≡ place.Between half.wire
   between_at None session None half between = refl
   between_at None session (Some outcome) half between = absurd between

@@ -56,7 +56,7 @@ impl<X> Connection<X> {
             }
             Some(session) => {
                 self.ended = Some(end_session::<A, X, U>(
-                    session,
+                    &mut **session,
                     exchange,
                     setting,
                     &mut self.tally,

@@ -38,8 +38,8 @@ pub enum Step {
 pub struct Connection<X> {
     /// The half of requests. Its wire is the connection's between two of them, too.
     pub(crate) half: HttpHalf,
-    /// The half of a session, once an opening handshake was read.
-    pub(crate) session: Option<WebSocketHalf>,
+    /// The half of a session, once an opening handshake was read: in a place of its own, since most connections have none.
+    pub(crate) session: Option<Box<WebSocketHalf>>,
     /// What runs of the exchange in hand.
     pub(crate) exchange: Option<X>,
     /// How the connection has ended.
@@ -213,7 +213,7 @@ impl<X> Connection<X> {
         match &mut self.exchange {
             Some(exchange) => match &mut self.session {
                 None => Some(runner.turn(exchange, &mut self.half, line)),
-                Some(session) => Some(runner.turn(exchange, session, line)),
+                Some(session) => Some(runner.turn(exchange, &mut **session, line)),
             },
             None => match self.ended {
                 Some(_) => None,

@@ -16,7 +16,7 @@ ghost use Rattle.asgi_conn.specs.private.Loop.{CallsWith, HasBegun, IsFree, IsNe
 ghost use Rattle.asgi_conn.specs.declared.tally.Tally.{Tally};
 
 use crate::connection::Connection;
-use crate::place::{leave_session, put};
+use crate::place::{boxed, leave_session, put};
 use crate::tally::Tally;
 use asgi_apps::{AppTask, Application, Calls, Running};
 use asgi_conversation::Outcome;
@@ -103,6 +103,12 @@ impl<X> Connection<X> {
             return self.end_with(Outcome::NoMemory);
         };
         let text = ResponseText::new(self.half.wire.alloc, &own);
+        let fresh = Wire::new(self.half.wire.alloc, self.half.wire.limits);
+        let wire = mem::replace(&mut self.half.wire, fresh);
+        let half = WebSocketHalf::begin(wire, own, text, frames);
+        let Some(session) = boxed(self.half.wire.alloc, half) else {
+            return self.end_with(Outcome::NoMemory);
+        };
         match begin(
             &mut self.exchange,
             &self.half.wire,
@@ -114,11 +120,7 @@ impl<X> Connection<X> {
             runner,
         ) {
             Some(outcome) => self.end_with(outcome),
-            None => {
-                let fresh = Wire::new(self.half.wire.alloc, self.half.wire.limits);
-                let wire = mem::replace(&mut self.half.wire, fresh);
-                self.session = Some(WebSocketHalf::begin(wire, own, text, frames));
-            }
+            None => self.session = Some(session),
         }
     }
 }

@@ -1,5 +1,5 @@
 //! Where a connection stands between two turns, and how it goes from place to place.
-ghost use Rattle.std.specs.Prelude.{◌≡◌, Some, None, IsTrue, IsFalse};
+ghost use Rattle.std.specs.Prelude.{◌≡◌, Some, None, IfSome, IsTrue, IsFalse};
 ghost use Rattle.asgi_conn.specs.Places as place;
 ghost use Rattle.asgi_conn.specs.Places.{place_of};
 ghost use Rattle.asgi_conn.specs.Standing.{IsToEnd};
@@ -9,6 +9,7 @@ use crate::connection::Connection;
 use asgi_conversation::Outcome;
 use asgi_halves::WebSocketHalf;
 use asgi_run::Half;
+use std::alloc::Global;
 use std::mem;
 
 impl<X> Connection<X> {
@@ -83,10 +84,20 @@ pub(crate) fn put<X>(place: &mut Option<X>, exchange: X)
     }
 }
 
+/// The half of a session in a place of its own. None if memory for it is refused.
+pub(crate) fn boxed(alloc: Global, half: WebSocketHalf) -> Option<Box<WebSocketHalf>>
+    ensures { IfSome result (λ session. session.value ≡ half) }
+{
+    match Box::new(alloc, half) {
+        Ok(session) => Some(session),
+        Err(_) => None,
+    }
+}
+
 /// Drops the half of a session, if there is one.
 ///
 /// The exchange of a handshake is the last one, so there is none: this costs one look.
-pub(crate) fn leave_session(session: &mut Option<WebSocketHalf>)
+pub(crate) fn leave_session(session: &mut Option<Box<WebSocketHalf>>)
     ensures { session.new ≡ None }
 {
     if session.is_some() {

@@ -1,3 +1,4 @@
+use Rattle.std.proofs.Common.{sym}
 use Rattle.asgi_conn.proofs.TurnLemmas as lemma
 use Rattle.asgi_conn.proofs.connection.Connection.move_on.Goals as goal
 
@@ -20,4 +21,5 @@ returns-in-None-session-clause-serves g c app limits start s =
 
 pub returns-in-Some-session-clause-serves : goal.returns-in-Some-session-clause-serves
 returns-in-Some-session-clause-serves g c app limits start s =
-    lemma.session_moves c.turn-in-Some-session.ensures.began (rw (c.in-Some.is, c.in-Some-session.is) at s) c.turn-in-Some-session.ensures.leads
+    lemma.session_moves c.turn-in-Some-session.ensures.began (rw (c.in-Some.is, c.in-Some-session.is, sym c.deref_mut.ensures.value) at s)
+    c.turn-in-Some-session.ensures.leads
