@@ -31,11 +31,7 @@ impl PlainApp {
     ghost use Rattle.asgi_pipes.specs.Boxes.{IsNewOutbox, IsNewInbox};
 
     /// The end of a new pair, with these queues.
-    pub(crate) fn new(
-        inn: Inbox<Incoming>,
-        out: Outbox<OutItem>,
-        state: Box<AppState>,
-    ) -> PlainApp
+    pub(crate) fn new(inn: Inbox<Incoming>, out: Outbox<OutItem>, state: Box<AppState>) -> PlainApp
         requires inn { IsNewInbox out.places inn }
         requires out { IsNewOutbox out.places out }
         requires places { 0 < out.places }
