@@ -47,6 +47,8 @@ LASTING = ["EBADF", "EINVAL", "ENOTSOCK", "EFAULT"]
 FAULT = "device fault\n"
 # How long another client may have to wait for one that holds the server: it is 9 seconds for a pong that is not taken.
 HELD = 45
+# How long it may take until nothing more of the first one is taken, which is a few seconds where the processors are free.
+FILLED = 120
 # "Any client that is refused gets its answer": the largest body that is taken, and more than that.
 MEBIBYTE = 1 << 20
 # A ping with a payload of 125 bytes, masked by zeros.
@@ -199,6 +201,36 @@ class Library(unittest.TestCase):
                 self.assertEqual((lines[1:], status), (["connection 1: 1 requests, finished"], 0))
 
 
+class Flood(threading.Thread):
+    """Sends a text over a line on and on, and reads nothing, until `end`. `stands` is set once nothing was taken for a second."""
+
+    def __init__(self, line, text):
+        super().__init__(daemon=True)
+        self.line, self.text = line, text
+        self.stands, self.is_over = threading.Event(), threading.Event()
+        self.start()
+
+    def run(self):
+        self.line.settimeout(0.1)
+        rest, waited = self.text, 0
+        while not self.is_over.is_set():
+            try:
+                rest = rest[self.line.send(rest) :] or self.text
+                waited = 0
+            except TimeoutError:
+                waited += 1
+                if waited == 10:
+                    self.stands.set()
+            except OSError:
+                break
+        self.stands.set()
+
+    def end(self):
+        self.is_over.set()
+        self.join()
+        self.line.close()
+
+
 class Held(unittest.TestCase):
     """Clients that would hold the server, or lose an answer."""
 
@@ -208,30 +240,15 @@ class Held(unittest.TestCase):
             pings.setsockopt(socket.SOL_SOCKET, socket.SO_RCVBUF, 4_096)
             pings.connect(("127.0.0.1", server.port))
             pings.sendall(HANDSHAKE)
-            stop = threading.Event()
-
-            def send():
-                pings.settimeout(0.1)
-                while not stop.is_set():
-                    try:
-                        pings.send(PING * 1_000)
-                    except TimeoutError:
-                        continue
-                    except OSError:
-                        return
-
-            sending = threading.Thread(target=send)
-            sending.start()
-            time.sleep(2)
+            flood = Flood(pings, PING * 1_000)
+            self.assertTrue(flood.stands.wait(FILLED))
             began = time.monotonic()
             with server.connect() as line:
                 line.sendall(HANDSHAKE)
                 line.settimeout(HELD)
                 answer = line.recv(1 << 16)
                 waited = time.monotonic() - began
-                stop.set()
-                sending.join()
-                pings.close()
+                flood.end()
             self.assertTrue(answer.startswith(b"HTTP/1.1 101 "), answer)
             self.assertLess(waited, HELD)
             reports, errors, status = server.ended()
@@ -239,31 +256,15 @@ class Held(unittest.TestCase):
 
     def unread(self, asked, connect):
         """How long another client waits for one that asks this on and on and reads nothing, where there is one worker."""
-        first, stop = connect(4_096), threading.Event()
-
-        def send():
-            first.settimeout(0.1)
-            rest = asked
-            while not stop.is_set():
-                try:
-                    rest = rest[first.send(rest) :] or asked
-                except TimeoutError:
-                    continue
-                except OSError:
-                    return
-
-        sending = threading.Thread(target=send)
-        sending.start()
-        time.sleep(2)
+        flood = Flood(connect(4_096), asked)
+        self.assertTrue(flood.stands.wait(FILLED))
         began = time.monotonic()
         with connect() as line:
             line.settimeout(HELD)
             line.sendall(b"GET / HTTP/1.0\r\n\r\n")
             answer = read_all(line)
         waited = time.monotonic() - began
-        stop.set()
-        sending.join()
-        first.close()
+        flood.end()
         self.assertTrue(answer.startswith(b"HTTP/1.1 200 OK\r\n"), answer)
         return waited
 

@@ -1,5 +1,5 @@
-"""silent.py PORT PROCESS NAME: what 9,000 clients that ask once and then say nothing cost the server of that process: memory each,
-and processor time in ten seconds. It is called by seats.sh."""
+"""silent.py PORT PROCESS NAME: what 9,000 clients that come within some twenty seconds, ask once and then say nothing cost the server of
+that process: memory each, and processor time in ten seconds. It is called by seats.sh."""
 
 import re, socket, sys, time
 
@@ -24,6 +24,7 @@ for _ in range(MANY):
     line.sendall(b"GET / HTTP/1.1\r\nHost: a\r\n\r\n")
     line.recv(4096)
     lines.append(line)
+    time.sleep(0.0018)
 after, spent = memory(), ticks()
 time.sleep(10)
 print(f"{server}: {MANY} clients, {(after - before) * 1024 / MANY:.0f} bytes each, {ticks() - spent} hundredths of a second in ten")
