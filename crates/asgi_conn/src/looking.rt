@@ -18,6 +18,7 @@ use asgi_io::{Pause, Turn};
 use asgi_pipes::Pipes;
 use asgi_run::Runner;
 use asgi_ws::Line;
+use std::mem;
 
 /// Where a connection stands between two turns.
 #[derive(Clone, Copy, Debug, PartialEq, Eq)]
@@ -101,12 +102,15 @@ impl<X> Connection<X> {
         }
     }
 
-    /// Lets go of the memory that the next read takes anew, for a connection that is silent.
-    pub fn let_go(&mut self)
+    /// Swaps the buffer that its reads fill for this one. What is in a buffer means nothing between two reads, so connections that
+    /// take their turns one after another need one among them.
+    pub fn swap_piece(&mut self, piece: &mut Piece)
         ensures same { self.new ≡ self.old }
     {
-        let wire = &mut self.half.wire;
-        wire.piece = Piece::new(wire.alloc);
+        match &mut self.session {
+            None => mem::swap(&mut self.half.wire.piece, piece),
+            Some(session) => mem::swap(&mut session.wire.piece, piece),
+        }
     }
 
     /// Where it stands between two turns, and how many exchanges it has had.

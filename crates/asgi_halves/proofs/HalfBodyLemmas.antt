@@ -1,32 +1,50 @@
 -- What the connection's half knows of the body: what the reader gave of it, and what was offered.
-use Rattle.asgi_halves.proofs.HalfWords.{◌≡◌, ◌≢◌, ℕ, true, false, List, [], ◌∷◌, ◌++◌, map, refl, sym, ap, ◌∙◌, inr, append_assoc, Option, None, ◌⊎◌, IsPrefix, Facts, Framing, Incoming, Scope, Next}
+use Rattle.asgi_halves.proofs.HalfWords.{◌≡◌, ◌≢◌, ℕ, true, false, List, [], ◌∷◌, ◌++◌, map, refl, sym, ap, ◌∙◌, inl, inr, append_assoc, Option, None, ◌⊎◌, IsPrefix, Framing, Incoming, Limits, Next}
 use Rattle.asgi_halves.proofs.HalfWords.{body_events, body_state, BodyState, complete, HasOpened, Reading, StandsFor, Break, is_by_input, is_by_cut, BodyProgress, InputEnd, Input, HasGiven, BreaksAt}
 use Rattle.asgi_halves.proofs.HalfWords.{has_ended, is_faulty, input_of, IsSettled, known_input, body_is_read, partial, faulty, ReadsBody, GaveNext, arith}
 use Rattle.asgi_exchange.proofs.ListLemmas.{last_same}
-use Rattle.asgi_request.proofs.{DueLemmas.OpensAt, DueLemmas.bad_is_faulty, DueLemmas.events_are_due, DueLemmas.need_is_partial, DueLemmas.no_head as none_inside, DueLemmas.whole_is_complete}
+use Rattle.asgi_request.proofs.{DueLemmas.OpensAt, DueLemmas.bad_is_faulty, DueLemmas.events_are_due, DueLemmas.need_is_partial, DueLemmas.whole_is_complete}
 use Rattle.asgi_request.proofs.{OpenedLemmas.opened_at, OpenedLemmas.opened_plain, RefusalLemmas.refused_last}
-use Rattle.asgi_request.specs.{Reading.AllGiven, Reading.GoesOn, Reading.IsRefused, Refusals.status_of}
+use Rattle.asgi_request.specs.{Reading.AllGiven, Reading.EndsWhole, Reading.GoesOnInside, Reading.IsRefused, Refusals.status_of}
 
 -- ---- breaks
 
 pub unbroken : (b : Option Break) → is_by_cut b ≡ false → is_by_input b ≡ false → b ≡ None
 unbroken b uncut not_by_input = grind arith
 
--- ---- no refusal was given before
+-- ---- neither a refusal nor the end of the request was given before
 
-no_bad : (front : List Next) (x : Next) (events : List Incoming) (before : List Next) (status : ℕ) → x ≢ Next.Bad status
-    → front ++ x ∷ map Next.Event events ≡ before ++ Next.Bad status ∷ [] → ⊥
-no_bad front x [] before status other e = other (last_same front before x (Next.Bad status) e).1
-no_bad front x (event ∷ events) before status other e =
-    no_bad (front ++ x ∷ []) (Next.Event event) events before status (λ is. cc) (append_assoc front (x ∷ []) (map Next.Event (event ∷ events)) ∙ e)
+no_other : (front : List Next) (x : Next) (events : List Incoming) (before : List Next) (last : Next) → x ≢ last → ((event : Incoming) → Next.Event event ≢ last)
+    → front ++ x ∷ map Next.Event events ≡ before ++ last ∷ [] → ⊥
+no_other front x [] before last other no_event e = other (last_same front before x last e).1
+no_other front x (event ∷ events) before last other no_event e =
+    no_other (front ++ x ∷ []) (Next.Event event) events before last (no_event event) no_event (append_assoc front (x ∷ []) (map Next.Event (event ∷ events)) ∙ e)
+
+-- where the head stands among them
+all_given : (limits : Limits) (read : List ℕ) (opened : List Next) (framing : Framing) (arrived : List ℕ) (events : List Incoming) (x : HasOpened limits read opened framing arrived)
+    → opened ++ map Next.Event events ≡ x.closed ++ Next.Head x.scope x.facts ∷ map Next.Event events
+all_given limits read opened framing arrived events x =
+    ap (λ (l : List Next). l ++ map Next.Event events) x.opened_is ∙ append_assoc x.closed (Next.Head x.scope x.facts ∷ []) (map Next.Event events)
 
 -- a reader that gave a head and events after it has not refused
 not_refused : (reader : Reading) (read : List ℕ) (opened : List Next) (framing : Framing) (arrived : List ℕ) (events : List Incoming) (status : ℕ)
     → HasOpened reader.limits read opened framing arrived → StandsFor reader read (opened ++ map Next.Event events) → IsRefused reader status → ⊥
 not_refused reader read opened framing arrived events status x stands refused =
     let last = refused_last reader.limits read (opened ++ map Next.Event events) reader.place reader.held refused.0 stands refused.1 in
-    let all = ap (λ (l : List Next). l ++ map Next.Event events) x.opened_is ∙ append_assoc x.closed (Next.Head x.scope x.facts ∷ []) (map Next.Event events) in
-    no_bad x.closed (Next.Head x.scope x.facts) events last.0 (status_of refused.0) (λ is. cc) (sym all ∙ last.1)
+    let all = all_given reader.limits read opened framing arrived events x in
+    no_other x.closed (Next.Head x.scope x.facts) events last.0 (Next.Bad (status_of refused.0)) (λ is. cc) (λ event is. cc) (sym all ∙ last.1)
+
+something : (front : List Next) (x : Next) (more : List Next) → front ++ x ∷ more ≡ [] → ⊥
+something [] x more e = cc
+something (y ∷ front) x more e = cc
+
+-- a head and events after it end no request
+is_inside : (limits : Limits) (read : List ℕ) (opened : List Next) (framing : Framing) (arrived : List ℕ) (events : List Incoming) → HasOpened limits read opened framing arrived
+    → EndsWhole (opened ++ map Next.Event events) → ⊥
+is_inside limits read opened framing arrived events x (inl none) =
+    something x.closed (Next.Head x.scope x.facts) (map Next.Event events) (sym (all_given limits read opened framing arrived events x) ∙ none)
+is_inside limits read opened framing arrived events x (inr w) =
+    no_other x.closed (Next.Head x.scope x.facts) events w.0 Next.Whole (λ is. cc) (λ event is. cc) (sym (all_given limits read opened framing arrived events x) ∙ w.1)
 
 -- ---- the body, by what the reader gave of it
 
@@ -71,17 +89,14 @@ module _ (reader : Reading) (read : List ℕ) (opened : List Next) (framing : Fr
       let w = bad_is_faulty reader.limits read opened framing arrived due state reader.place reader.held at plain body_read events status given in inr (ap is_faulty w.1.1)
   why_broken events _ end given breaks = grind arith
 
-  pub no_head : (events : List Incoming) (scope : Scope) (facts : Facts) → StandsFor reader read ((opened ++ map Next.Event events) ++ Next.Head scope facts ∷ []) → ⊥
-  no_head events scope facts stands =
-      none_inside reader.limits read opened framing arrived due state reader.place reader.held at plain body_read events scope facts (rw append_assoc at stands)
-
 -- ---- from what the reader gave
 
 pub gave_next : (old new : Reading) (item : Next) (read : List ℕ) (opened : List Next) (framing : Framing) (arrived : List ℕ) (events : List Incoming)
     → HasOpened old.limits read opened framing arrived → StandsFor old read (opened ++ map Next.Event events)
     → (item ≡ Next.Need → (bytes : List ℕ) (given : List Next) → StandsFor old bytes given → StandsFor new bytes given × AllGiven new bytes given)
-    → (item ≢ Next.Need → ((status : ℕ) → IsRefused old status → ⊥) → GoesOn old new item)
+    → (item ≢ Next.Need → ((status : ℕ) → IsRefused old status → ⊥) → GoesOnInside old new item)
     → GaveNext new read (opened ++ map Next.Event events) item
 gave_next old new Next.Need read opened framing arrived events x stands need given = need refl read (opened ++ map Next.Event events) stands
 gave_next old new _ read opened framing arrived events x stands need given =
     given (λ e. cc) (λ status. not_refused old read opened framing arrived events status x stands) read (opened ++ map Next.Event events) stands
+    (is_inside old.limits read opened framing arrived events x)

@@ -7,6 +7,8 @@ ghost use Rattle.asgi_types.specs.declared.facts.Framing.{Framing};
 ghost use Rattle.asgi_types.specs.declared.incoming.Incoming.{Incoming};
 ghost use Rattle.asgi_types.specs.declared.outgoing.Outgoing.{Outgoing};
 ghost use Rattle.asgi_request.specs.declared.next.Next.{Next};
+ghost use Rattle.asgi_request.specs.declared.next.NextOfBody.{NextOfBody};
+ghost use Rattle.asgi_request.specs.BodyResults.{next_of};
 ghost use Rattle.asgi_request.specs.Opened.{HasOpened};
 ghost use Rattle.asgi_request.specs.Reading.{Reading};
 ghost use Rattle.asgi_response.specs.Progress.{progress_of};
@@ -26,7 +28,7 @@ use crate::wire::Wire;
 use asgi_conversation::{InputEnd, NextStep, Outcome, after_task};
 use asgi_io::Turn;
 use asgi_pipes::{ConnEnd, EndKind, OutItem};
-use asgi_request::Next;
+use asgi_request::NextOfBody;
 use asgi_response::{Input, Progress, ResponseText};
 use asgi_types::{Facts, Framing, HttpVersion, Incoming, Names, Outgoing};
 use asgi_ws::Line;
@@ -282,7 +284,7 @@ impl HttpHalf {
         ensures limits { self.new.wire.requests.limits ≡ self.old.wire.requests.limits }
         ensures asked { OnOk result (HasAsked self.new) }
     {
-        self.body = body_of(self.wire.requests.next()?, self.wire.input);
+        self.body = body_of(self.wire.requests.next_of_body()?, self.wire.input);
         Ok(())
     }
 
@@ -528,20 +530,17 @@ impl ExchangeKind for HttpHalf {
 }
 
 /// The body after what the reader gave.
-///
-/// A reader gives no head inside a body.
-fn body_of(next: Next, input: InputEnd) -> BodyProgress
+fn body_of(next: NextOfBody, input: InputEnd) -> BodyProgress
     ensures gives { (reader : Reading) (read : List ℕ) (opened : List Next) (framing : Framing) (arrived : List ℕ) (events : List Incoming)
-        → HasOpened reader.limits read opened framing arrived → GaveNext reader read (opened ++ map Next.Event events) next → HasGiven reader read opened events result }
+        → HasOpened reader.limits read opened framing arrived → GaveNext reader read (opened ++ map Next.Event events) (next_of next) → HasGiven reader read opened events result }
     ensures ends_where { EndsWhere result input }
-    ensures open { result ≡ BodyProgress.Open → next ≡ Next.Need }
+    ensures open { result ≡ BodyProgress.Open → next ≡ NextOfBody.Need }
 {
     match next {
-        Next::Need => unfinished(input),
-        Next::Event(event) => BodyProgress::Waits(event),
-        Next::Whole => BodyProgress::Whole,
-        Next::Bad(status) => BodyProgress::Refused(status),
-        Next::Head(_, _) => BodyProgress::Whole,
+        NextOfBody::Need => unfinished(input),
+        NextOfBody::Event(event) => BodyProgress::Waits(event),
+        NextOfBody::Whole => BodyProgress::Whole,
+        NextOfBody::Bad(status) => BodyProgress::Refused(status),
     }
 }
 

@@ -33,14 +33,14 @@ module _ {T : Type 0} (stands : T → Kind → List Incoming → List Outgoing �
   -- what was sent is lawful
   pub lawful : (hosted : Hosted T) → IsOpen stands hosted → IsLawful Lifespan no_request (said_by hosted)
   lawful hosted is =
-      let app = hosted.app_end.state in
+      let app = hosted.app_end.state.value in
       subst (λ (k : Kind). IsLawful k no_request app.said.items) is.kind
       (subst (λ (f : Facts). IsLawful app.kind f app.said.items) is.facts (lawful_in app))
 
   -- what was received is a beginning of what was offered
   pub hears : (hosted : Hosted T) → IsHosted stands hosted → IsPrefix (heard_by hosted) (offered_to hosted)
   hears hosted is =
-      let app = hosted.app_end.state in
+      let app = hosted.app_end.state.value in
       let same : app.heard.items ≡ app.pulled.items = subst (λ (k : Kind). Hears k app.said.items app.pulled.items app.heard.items) is.0.kind (heard_in app) in
       (app_end.ghosts.seen hosted.app_end, ap (λ (l : List Incoming). l ++ app_end.ghosts.seen hosted.app_end) same ∙ sym is.1.inward)
 

@@ -9,6 +9,7 @@ ghost use Rattle.asgi_many.specs.Turns.{CountsIdle};
 
 use asgi_apps::{Application, Calls};
 use asgi_conn::{Connection, Report, Runner, Setting, Step};
+use asgi_halves::Piece;
 use asgi_io::{CountingPause, Pause};
 use asgi_types::{Limits, Peer, State};
 use asgi_ws::Line;
@@ -138,18 +139,11 @@ impl<X, L: Line> Seat<X, L> {
         }
     }
 
-    /// Lets go of the buffer of a connection of which nothing moved, if it may stay silent: a tick has passed, or it has not asked
-    /// for anything yet.
-    pub(crate) fn rest(&mut self, cause: Cause)
+    /// Swaps the buffer that the reads of its connection fill for this one.
+    pub(crate) fn swap_piece(&mut self, piece: &mut Piece)
         ensures same { self.new ≡ self.old }
     {
-        let is_silent = match cause {
-            Cause::Tick => true,
-            Cause::Wake => self.connection.rest().exchanges == 0,
-        };
-        if is_silent {
-            self.connection.let_go();
-        }
+        self.connection.swap_piece(piece);
     }
 
     /// What is left of a connection that has ended with this report.

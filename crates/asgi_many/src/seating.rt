@@ -13,6 +13,7 @@ use crate::seat::{Cause, Ended, Newcomer, Seat};
 use crate::table::{Table, Turned};
 use asgi_apps::{Application, Calls};
 use asgi_conn::{Report, Rest, Runner, Step};
+use asgi_halves::Piece;
 use asgi_types::{Limits, State};
 use asgi_ws::Line;
 use slab::Slab;
@@ -30,10 +31,12 @@ impl<X, L: Line> Table<X, L> {
             → Holds A.Task.answers U.Pipes.Conn.ConnEnd U.Pipes.App.AppEnd U.conn U.began (A.answers app) L.state state [] table []) }
         ensures empty { IfOk result (λ table. IsEmpty table × (table.places ≡ places) × (table.limits ≡ limits.now)) }
     {
+        let piece = Piece::new(alloc);
         Ok(Table {
             alloc,
             limits: *limits,
             seats: Slab::with_capacity(alloc, places)?,
+            piece,
             places,
             came: 0,
         })
@@ -167,12 +170,12 @@ impl<X, L: Line> Table<X, L> {
         let Some(seat) = self.seats.get_mut(at) else {
             return Turned::NoOne;
         };
-        match seat.turn(cause, state, calls, runner) {
+        seat.swap_piece(&mut self.piece);
+        let step = seat.turn(cause, state, calls, runner);
+        seat.swap_piece(&mut self.piece);
+        match step {
             Step::Moved => Turned::Moved,
-            Step::Idle => {
-                seat.rest(cause);
-                Turned::Idle
-            }
+            Step::Idle => Turned::Idle,
             Step::Over(report) => Turned::Over(self.free(at, report)),
         }
     }

@@ -2,6 +2,7 @@
 ghost use Rattle.std.specs.Prelude.{◌<◌, ◌≤◌, ◌^◌};
 
 use crate::seat::{Ended, Seat};
+use asgi_halves::Piece;
 use asgi_types::Limits;
 use slab::Slab;
 use std::alloc::Global;
@@ -25,6 +26,8 @@ pub struct Table<X, L> {
     pub(crate) alloc: Global,
     pub(crate) limits: Limits,
     pub(crate) seats: Slab<Seat<X, L>>,
+    /// The buffer of all of them: each has it for its turn.
+    pub(crate) piece: Piece,
     /// How many may sit at a time.
     pub(crate) places: usize,
     /// How many have come.

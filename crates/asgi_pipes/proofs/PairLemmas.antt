@@ -21,11 +21,11 @@ is_none_yet None none = refl
 is_none_yet (Some kind) none = absurd (cc)
 
 pub left_outward : (conn : PlainConn) (app : PlainApp) → IsPlainPair conn app
-    → KeepsOrder (open_places (conn.out.places - 1) (is_some app.state.ended)) (items_of app.state.said.items app.state.ended) conn.inn.taken.items (length conn.inn.queue.items + length app.out.queue.items)
+    → KeepsOrder (open_places (conn.out.places - 1) (is_some app.state.value.ended)) (items_of app.state.value.said.items app.state.value.ended) conn.inn.taken.items (length conn.inn.queue.items + length app.out.queue.items)
 left_outward conn app pair =
     let places = sym conn.same_places ∙ ap (λ t. t.outward.places) pair in
     rw (places, sym app.put_is)
-    (left_between app.out conn.inn (is_some app.state.ended) (λ none. app.reserved (is_none_yet app.state.ended none)) (sym (ap (λ t. t.outward.items) pair), sym (ap (λ t. t.outward.waiting) pair), sym (ap (λ t. t.outward.places) pair)))
+    (left_between app.out conn.inn (is_some app.state.value.ended) (λ none. app.reserved (is_none_yet app.state.value.ended none)) (sym (ap (λ t. t.outward.items) pair), sym (ap (λ t. t.outward.waiting) pair), sym (ap (λ t. t.outward.places) pair)))
 
 pub keep_order : PlainPairsKeepOrder
 keep_order conn app pair = ((_, left_inward conn app pair), (_, left_outward conn app pair))

@@ -47,4 +47,4 @@ HeardHasOneReading = (kind : Kind) (said : List Outgoing) (pulled heard : List I
 abbrev pub PlainPairsKeepOrder : Type 0
 PlainPairsKeepOrder = (conn : PlainConn) (app : PlainApp) → IsPlainPair conn app
     → ((left_in : ℕ) × KeepsOrder (open_places (conn.out.places - 1) conn.broken) (put_by conn.out) app.inn.taken.items left_in)
-    × ((left_out : ℕ) × KeepsOrder (open_places (conn.out.places - 1) (is_some app.state.ended)) (items_of app.state.said.items app.state.ended) conn.inn.taken.items left_out)
+    × ((left_out : ℕ) × KeepsOrder (open_places (conn.out.places - 1) (is_some app.state.value.ended)) (items_of app.state.value.said.items app.state.value.ended) conn.inn.taken.items left_out)

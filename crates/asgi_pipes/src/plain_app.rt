@@ -18,11 +18,12 @@ use futures::task::{Context, Poll};
 pub struct PlainApp {
     pub(crate) inn: Inbox<Incoming>,
     pub(crate) out: Outbox<OutItem>,
-    pub(crate) state: AppState,
-    ghost reserved: { state.ended ≡ None → 0 < free_in out },
+    /// In a place of its own, which a renewed pair keeps, so that an end is small where it is moved.
+    pub(crate) state: Box<AppState>,
+    ghost reserved: { state.value.ended ≡ None → 0 < free_in out },
     ghost same_places: { inn.places ≡ out.places },
-    ghost put_is: { put_by out ≡ items_of state.said.items state.ended },
-    ghost pulled_is: { inn.taken.items ≡ state.pulled.items },
+    ghost put_is: { put_by out ≡ items_of state.value.said.items state.value.ended },
+    ghost pulled_is: { inn.taken.items ≡ state.value.pulled.items },
 }
 
 impl PlainApp {
@@ -30,23 +31,14 @@ impl PlainApp {
     ghost use Rattle.asgi_pipes.specs.Boxes.{IsNewOutbox, IsNewInbox};
 
     /// The end of a new pair, with these queues.
-    pub(crate) fn new(
-        inn: Inbox<Incoming>,
-        out: Outbox<OutItem>,
-        kind: Kind,
-        facts: Facts,
-    ) -> PlainApp
+    pub(crate) fn new(inn: Inbox<Incoming>, out: Outbox<OutItem>, state: Box<AppState>) -> PlainApp
         requires inn { IsNewInbox out.places inn }
         requires out { IsNewOutbox out.places out }
         requires places { 0 < out.places }
-        ensures queues { (result.inn ≡ inn) × (result.out ≡ out) }
-        ensures fresh { IsFresh kind facts result.state }
+        requires fresh { (kind : Kind) × (facts : Facts) × IsFresh kind facts state.value }
+        ensures as_given { (result.inn ≡ inn) × (result.out ≡ out) × (result.state ≡ state) }
     {
-        PlainApp {
-            inn,
-            out,
-            state: AppState::new(kind, facts),
-        }
+        PlainApp { inn, out, state }
     }
 
     /// The end of a new pair, with the queues of this one. What is left in them is dropped.
@@ -54,16 +46,17 @@ impl PlainApp {
         requires { 0 < self.out.places }
         ensures out { IsNewOutbox self.out.places result.out }
         ensures inn { IsNewInbox self.out.places result.inn }
-        ensures fresh { IsFresh kind facts result.state }
+        ensures fresh { IsFresh kind facts result.state.value }
     {
         let PlainApp {
             mut inn,
             mut out,
-            ..
+            mut state,
         } = self;
         inn.clear();
         out.clear();
-        PlainApp::new(inn, out, kind, facts)
+        *state = AppState::new(kind, facts);
+        PlainApp::new(inn, out, state)
     }
 }
 
@@ -81,23 +74,23 @@ impl AppEnd for PlainApp {
 
     ghost capacity = { λ s. (deque_capacity s.out.queue, deque_capacity s.inn.queue) };
 
-    ghost kind = { λ s. s.state.kind };
+    ghost kind = { λ s. s.state.value.kind };
 
-    ghost facts = { λ s. s.state.facts };
+    ghost facts = { λ s. s.state.value.facts };
 
-    ghost heard = { λ s. s.state.heard.items };
+    ghost heard = { λ s. s.state.value.heard.items };
 
-    ghost pulled = { λ s. s.state.pulled.items };
+    ghost pulled = { λ s. s.state.value.pulled.items };
 
     ghost seen = { λ s. s.inn.queue.items };
 
-    ghost said = { λ s. s.state.said.items };
+    ghost said = { λ s. s.state.value.said.items };
 
-    ghost ended = { λ s. s.state.ended };
+    ghost ended = { λ s. s.state.value.ended };
 
     ghost room = { λ s. free_in s.out - 1 };
 
-    ghost has_moved = { λ s. s.state.has_moved };
+    ghost has_moved = { λ s. s.state.value.has_moved };
 
     // This end has no sources: when it must wait, it asks for another poll.
     ghost arrivals = { λ _. 0 };
@@ -144,7 +137,7 @@ impl AppEnd for PlainApp {
         self.state.moved()
     }
 
-    ghost lawful = { λ s. ∥∥₁_map s.state.judged (λ stands. stands.lawful) };
+    ghost lawful = { λ s. ∥∥₁_map s.state.value.judged (λ stands. stands.lawful) };
 
-    ghost hears = { λ s. s.state.hears_is };
+    ghost hears = { λ s. s.state.value.hears_is };
 }

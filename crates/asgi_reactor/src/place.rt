@@ -8,12 +8,22 @@ use asgi_ws::Wired;
 pub type PolledLine = Wired<Polled>;
 
 /// What a socket is used for.
-#[derive(Drop)]
+#[derive(Clone, Copy, Debug)]
 pub(crate) enum Use {
     /// The connection in this seat.
     Seat(usize),
-    /// A connection that has ended, whose line is closed, after so many ticks at the latest.
-    Closing(PolledLine, u32),
+    /// A connection that has ended, whose line, at this key, is closed.
+    Closing(usize),
+}
+
+/// The line of a connection that has ended, which is closed.
+#[derive(Drop)]
+pub(crate) struct Closing {
+    line: PolledLine,
+    /// For so many ticks at the most.
+    ticks: u32,
+    /// In how many ticks in a row nothing of what waits for room has left.
+    stuck: u32,
 }
 
 /// A socket that was registered.
@@ -84,6 +94,39 @@ fn after_tick(stuck: u32, polled: &Polled) -> u32 {
     stuck.saturating_add(1)
 }
 
+impl Closing {
+    /// The line of a connection that has ended, whose peer has so many ticks to close it too.
+    pub(crate) fn new(line: PolledLine, ticks: u32) -> Closing {
+        Closing {
+            line,
+            ticks,
+            stuck: 0,
+        }
+    }
+
+    /// Goes on to close it. Whether it is closed.
+    pub(crate) fn is_closed(&self) -> bool {
+        match self.line.stream() {
+            Some(polled) => polled.close(),
+            None => true,
+        }
+    }
+
+    /// A tick has passed. Whether it was to be closed for long enough: it has shut its write half for some ticks, or nothing of what
+    /// waits has left for this many.
+    pub(crate) fn is_late(&mut self, patience: u32) -> bool {
+        let Some(polled) = self.line.stream() else {
+            return true;
+        };
+        if !polled.push() {
+            self.stuck = after_tick(self.stuck, polled);
+            return self.stuck >= patience;
+        }
+        self.ticks = self.ticks.saturating_sub(1);
+        self.ticks == 0
+    }
+}
+
 impl Place {
     /// That of a newcomer in this seat.
     pub(crate) fn of_seat(at: usize) -> Place {
@@ -128,23 +171,6 @@ impl Place {
         self.has_ticked = false;
         self.stuck = after_tick(self.stuck, polled);
         self.stuck >= patience
-    }
-
-    /// Whether its line was to be closed for long enough: it has shut its write half for some ticks, or nothing of what waits
-    /// has left for this many.
-    pub(crate) fn is_late(&mut self, patience: u32) -> bool {
-        let Use::Closing(line, ticks) = &mut self.usage else {
-            return false;
-        };
-        let Some(polled) = line.stream() else {
-            return true;
-        };
-        if !polled.push() {
-            self.stuck = after_tick(self.stuck, polled);
-            return self.stuck >= patience;
-        }
-        *ticks = ticks.saturating_sub(1);
-        *ticks == 0
     }
 
     /// A tick has passed. Whether it is to be taken up: its connection has moved nothing since the one before, or it has bytes that

@@ -1,6 +1,6 @@
 //! The sockets that were registered, and those of them that are to be taken up.
 use crate::numbers::Numbers;
-use crate::place::{Clocked, Place, PolledLine, Use, is_exchange};
+use crate::place::{Clocked, Closing, Place, PolledLine, Use, is_exchange};
 use asgi_many::{Ready, Rest};
 use mio::event::Event;
 use slab::Slab;
@@ -24,6 +24,8 @@ const CLOSING_TICKS: u32 = 2;
 #[derive(Drop)]
 pub(crate) struct Queue {
     places: Slab<Place>,
+    /// The lines that are closed. There is room for that of each socket, so a line can be closed whatever memory there is.
+    closing: Slab<Closing>,
     /// The tokens of seats.
     tokens: Vec<usize>,
     waiting: VecDeque<usize>,
@@ -56,6 +58,7 @@ impl Queue {
         tokens.resize(numbers.seats, usize::MAX)?;
         Ok(Queue {
             places: Slab::with_capacity(alloc, numbers.seats)?,
+            closing: Slab::with_capacity(alloc, numbers.seats)?,
             tokens,
             waiting: VecDeque::new(alloc),
             first: None,
@@ -79,8 +82,10 @@ impl Queue {
         !self.waiting.is_empty()
     }
 
-    /// Makes room for one more socket.
+    /// Makes room for one more socket, and for its line once that is closed.
     pub(crate) fn make_room(&mut self) -> Result<(), AllocError> {
+        let sitting = self.places.len().saturating_sub(self.closing.len());
+        self.closing.reserve(sitting.saturating_add(1))?;
         self.places.reserve(1)
     }
 
@@ -95,7 +100,12 @@ impl Queue {
     /// The socket with this token is not registered any more.
     pub(crate) fn remove(&mut self, token: usize) {
         self.freed = true;
-        let _gone = self.places.try_remove(token);
+        let Some(gone) = self.places.try_remove(token) else {
+            return;
+        };
+        if let Use::Closing(key) = gone.usage {
+            let _closed = self.closing.try_remove(key);
+        }
     }
 
     /// The system told this of a socket.
@@ -156,7 +166,7 @@ impl Queue {
     fn seat_of(&self, token: usize) -> Option<usize> {
         match &self.places.get(token)?.usage {
             Use::Seat(at) => Some(*at),
-            Use::Closing(..) => None,
+            Use::Closing(_) => None,
         }
     }
 
@@ -261,25 +271,34 @@ impl Queue {
         let Some(place) = self.places.get_mut(token) else {
             return;
         };
-        place.usage = Use::Closing(line, CLOSING_TICKS);
+        // `make_room` has made room for it.
+        let Ok(key) = self.closing.insert(Closing::new(line, CLOSING_TICKS)) else {
+            return self.remove(token);
+        };
+        place.usage = Use::Closing(key);
         place.is_blocked = true;
         self.go_on_closing(token);
     }
 
     /// Goes on to close the line with this token, if it has ended.
     fn go_on_closing(&mut self, token: usize) {
-        let Some(place) = self.places.get(token) else {
+        let Some(key) = self.closing_of(token) else {
             return;
         };
-        let is_over = match &place.usage {
-            Use::Seat(_) => false,
-            Use::Closing(line, _) => match line.stream() {
-                Some(polled) => polled.close(),
-                None => true,
-            },
+        let is_closed = match self.closing.get(key) {
+            Some(closing) => closing.is_closed(),
+            None => true,
         };
-        if is_over {
+        if is_closed {
             self.remove(token);
+        }
+    }
+
+    /// The key of the line that is closed, whose socket has this token.
+    fn closing_of(&self, token: usize) -> Option<usize> {
+        match &self.places.get(token)?.usage {
+            Use::Seat(_) => None,
+            Use::Closing(key) => Some(*key),
         }
     }
 
@@ -304,10 +323,12 @@ impl Queue {
 
     /// Whether the line with this token was to be closed for long enough.
     fn is_late(&mut self, token: usize) -> bool {
-        let patience = self.patience;
-        match self.places.get_mut(token) {
-            Some(place) => place.is_late(patience),
-            None => false,
+        let Some(key) = self.closing_of(token) else {
+            return false;
+        };
+        match self.closing.get_mut(key) {
+            Some(closing) => closing.is_late(self.patience),
+            None => true,
         }
     }
 

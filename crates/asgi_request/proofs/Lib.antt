@@ -21,6 +21,7 @@ pub mod BackwardLemmas
 pub mod ResultsLemmas
 pub mod HandshakeLemmas
 pub mod HeldLemmas
+pub mod InsideLemmas
 pub mod FirstLemmas
 pub mod RefusalLemmas
 pub mod OpeningLemmas

@@ -13,6 +13,7 @@ pub mod Fronts
 pub mod Parts
 pub mod Places
 pub mod Reading
+pub mod BodyResults
 pub mod private
 pub mod Texts
 pub mod ChunkedBody

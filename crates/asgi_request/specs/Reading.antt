@@ -4,7 +4,7 @@ use Rattle.std.specs.List.{flat_map}
 use Rattle.asgi_request.specs.Results.{AreRequests, ReadsHandshake, GivesResults}
 use Rattle.asgi_types.specs.declared.limits.Limits.{Limits}
 use Rattle.asgi_request.specs.declared.place.Place.{Place}
-use Rattle.asgi_request.specs.declared.place.Place.TheVariants.{Stopped}
+use Rattle.asgi_request.specs.declared.place.Place.TheVariants.{Start, Stopped}
 use Rattle.asgi_request.specs.declared.next.Next.{Next}
 use Rattle.asgi_request.specs.declared.next.Next.TheVariants.{Whole}
 use Rattle.asgi_request.specs.declared.refusal.Refusal.{Refusal}
@@ -45,6 +45,10 @@ pub record WholeGiven (r : Reading) (bytes : List ℕ) (given : List Next) (rest
 abbrev pub IsWaiting : Reading → Type 0
 IsWaiting r = front r.limits r.place r.held ≡ unfinished
 
+-- a head is due
+abbrev pub AwaitsHead : Reading → Type 0
+AwaitsHead r = r.place ≡ Start
+
 -- a refusal was given
 abbrev pub IsRefused : Reading → ℕ → Type 0
 IsRefused r status = (why : Refusal) × (r.place ≡ Stopped why) × (status ≡ status_of why)
@@ -56,3 +60,7 @@ Keeps old new = (bytes : List ℕ) (given : List Next) → StandsFor old bytes g
 -- this result was given
 abbrev pub GoesOn : Reading → Reading → Next → Type 0
 GoesOn old new item = (bytes : List ℕ) (given : List Next) → StandsFor old bytes given → StandsFor new bytes (given ++ item ∷ [])
+
+-- this result was given, if what was given before ended in no whole request
+abbrev pub GoesOnInside : Reading → Reading → Next → Type 0
+GoesOnInside old new item = (bytes : List ℕ) (given : List Next) → StandsFor old bytes given → (EndsWhole given → ⊥) → StandsFor new bytes (given ++ item ∷ [])

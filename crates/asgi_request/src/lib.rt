@@ -22,7 +22,7 @@ mod upgrade;
 pub use framing::{HeadFraming, framing_of};
 pub use head::HeadRecord;
 pub use key::is_key;
-pub use next::Next;
+pub use next::{Next, NextOfBody};
 pub use reader::RequestReader;
 pub use scope::has_body;
 pub use upgrade::{UpgradeAsk, check_upgrade};

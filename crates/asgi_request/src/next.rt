@@ -1,4 +1,7 @@
 //! What a reader gives.
+ghost use Rattle.std.specs.Prelude.{◌≡◌};
+ghost use Rattle.asgi_request.specs.BodyResults as spec;
+
 use asgi_types::{Facts, Incoming, Scope};
 
 /// What a reader gives next.
@@ -19,4 +22,29 @@ pub enum Next {
     /// The bytes are refused with this status, now and at each later call: 400, 413, 426, 431 or
     /// 501.
     Bad(u16),
+}
+
+/// What a reader gives next inside a request: any result but a head, which makes a `Next` large.
+#[derive(Drop)]
+pub enum NextOfBody {
+    /// No result before more bytes are fed.
+    Need,
+    /// An event of the body, as in `Next`.
+    Event(Incoming),
+    /// The request is whole, and it is so until `next` gives another head.
+    Whole,
+    /// The bytes are refused with this status, as in `Next`.
+    Bad(u16),
+}
+
+/// The same result among all.
+pub fn next_of(given: NextOfBody) -> Next
+    ensures { result ≡ spec.next_of given }
+{
+    match given {
+        NextOfBody::Need => Next::Need,
+        NextOfBody::Event(event) => Next::Event(event),
+        NextOfBody::Whole => Next::Whole,
+        NextOfBody::Bad(status) => Next::Bad(status),
+    }
 }

@@ -1,5 +1,5 @@
 //! Requests out of bytes that come in any pieces.
-ghost use Rattle.std.specs.Prelude.{◌≡◌, ◌≢◌, ◌↔◌, ◌+◌, ◌<◌, ◌≤◌, ◌++◌, ◌∷◌, [], ℕ, List, length, take, drop, OnOk, OnErr, IfOk, IsOk, IsTrue, IsFalse, true, false, Some};
+ghost use Rattle.std.specs.Prelude.{◌≡◌, ◌≢◌, ◌↔◌, ◌+◌, ◌<◌, ◌≤◌, ◌++◌, ◌∷◌, [], ℕ, List, length, take, drop, OnOk, OnErr, IfOk, IsOk, IsTrue, IsFalse, true, false, Some, Ok};
 ghost use Rattle.std.specs.Vec.{vec_len, vec_capacity};
 ghost use Rattle.asgi_types.specs.Room.{LacksRoom};
 ghost use Rattle.asgi_types.specs.declared.facts.Framing.{Framing};
@@ -7,7 +7,9 @@ ghost use Rattle.asgi_request.specs.Key.{IsKey};
 ghost use Rattle.asgi_request.specs.Upgrade.{key_of};
 ghost use Rattle.asgi_request.specs.declared.next.Next.{Next};
 ghost use Rattle.asgi_request.specs.declared.place.Place.TheVariants.{Start};
-ghost use Rattle.asgi_request.specs.Reading.{StandsFor, EndsWhole, AllGiven, WholeGiven, IsWaiting, IsRefused, Keeps, GoesOn};
+ghost use Rattle.asgi_request.specs.declared.next.NextOfBody.{NextOfBody};
+ghost use Rattle.asgi_request.specs.BodyResults as results;
+ghost use Rattle.asgi_request.specs.Reading.{StandsFor, EndsWhole, AllGiven, WholeGiven, AwaitsHead, IsWaiting, IsRefused, Keeps, GoesOn, GoesOnInside};
 ghost use Rattle.asgi_request.specs.Fronts.{too_long};
 ghost use Rattle.asgi_request.specs.Places as places;
 ghost use Rattle.asgi_request.specs.Places.{front};
@@ -17,7 +19,7 @@ ghost use Rattle.asgi_request.specs.private.Searches.{Advances, IsThere, IsWithi
 
 use crate::head::{HeadRecord, parse_head};
 use crate::judge::{after_silent, body_place, why_too_long};
-use crate::next::Next;
+use crate::next::{Next, NextOfBody, next_of};
 use crate::parts::is_trailer;
 use crate::place::{Advance, Place};
 use crate::refusal::Refusal;
@@ -154,6 +156,33 @@ impl RequestReader {
         }
     }
 
+    /// The next result inside a request, as `next` gives it, without the place that a head takes; where
+    /// a head is due, `Whole`, and nothing changes. `AllocError` as of `next`.
+    pub fn next_of_body(&mut self) -> Result<NextOfBody, AllocError>
+        ensures need { IfOk result (λ next. results.next_of next ≡ Next.Need → (bytes : List ℕ) (given : List Next) → StandsFor self.old bytes given → StandsFor self.new bytes given × AllGiven self.new bytes given) }
+        ensures waits { IfOk result (λ next. results.next_of next ≡ Next.Need → IsWaiting self.new) }
+        ensures given { IfOk result (λ next. results.next_of next ≢ Next.Need → ((status : ℕ) → ¬ (IsRefused self.old status)) → GoesOnInside self.old self.new (results.next_of next)) }
+        ensures between { AwaitsHead self.old → (result ≡ Ok NextOfBody.Whole) × (self.new ≡ self.old) }
+        ensures refused { IfOk result (λ next. (status : ℕ) → results.next_of next ≡ Next.Bad status → IsRefused self.new status) }
+        ensures again { IfOk result (λ next. (status : ℕ) → IsRefused self.old status → (results.next_of next ≡ Next.Bad status) × (self.new ≡ self.old)) }
+        ensures sure { (status : ℕ) → IsRefused self.old status → IsOk result }
+        ensures limits { self.new.limits ≡ self.old.limits }
+        ensures capacity { self.new.capacity ≡ self.old.capacity }
+        ensures err { OnErr result (Keeps self.old self.new) }
+    {
+        if let Place::Stopped(refusal) = self.place {
+            return Ok(NextOfBody::Bad(refusal.status()));
+        }
+        if let Place::Start = self.place {
+            return Ok(NextOfBody::Whole);
+        }
+        match self.advance() {
+            Advance::Waits => Ok(NextOfBody::Need),
+            Advance::Refuses(refusal) => Ok(NextOfBody::Bad(refusal.status())),
+            Advance::Gives(n) => self.give_body(n),
+        }
+    }
+
     /// Whether all results of the bytes fed were given: true if more bytes are needed, after a
     /// refusal, and after the `Whole` of an opening handshake. False while a whole text that gives
     /// no result, such as a size line, is still to be passed. It takes no memory.
@@ -171,6 +200,7 @@ impl RequestReader {
     /// Goes past the texts that give no result, up to one that gives one.
     fn advance(&mut self) -> Advance
         ensures advances { Advances self.old self.new result }
+        ensures inside { self.old.place ≢ Place.Start → self.new.place ≢ Place.Start }
         ensures limits { self.new.limits ≡ self.old.limits }
         ensures capacity { self.new.capacity ≡ self.old.capacity }
     {
@@ -234,14 +264,27 @@ impl RequestReader {
         ensures ok { IfOk result (λ item. TakesText self.old self.new self.old.place n item) }
         ensures err { OnErr result (self.new ≡ self.old) }
     {
+        if let Place::Start = self.place {
+            return self.give_head(n);
+        }
+        Ok(next_of(self.give_body(n)?))
+    }
+
+    /// The result of a text that is no head.
+    fn give_body(&mut self, n: usize) -> Result<NextOfBody, AllocError>
+        requires there { IsThere self.old n }
+        requires loud { is_silent self.old.place ≡ false }
+        requires inside { self.old.place ≢ Place.Start }
+        ensures ok { IfOk result (λ item. TakesText self.old self.new self.old.place n (results.next_of item)) }
+        ensures err { OnErr result (self.new ≡ self.old) }
+    {
         match self.place {
-            Place::Start => self.give_head(n),
             Place::Counted(left) => self.give_counted(n, left),
             Place::Chunk { left, sum } => self.give_chunk(n, left, sum),
             Place::Trailers => Ok(self.give_trailers(n)),
             Place::BodyEnd => Ok(self.give_whole(n)),
             Place::HandshakeEnd => Ok(self.give_upgraded(n)),
-            Place::SizeLine(_) | Place::ChunkEnd(_) => unreachable!(),
+            Place::Start | Place::SizeLine(_) | Place::ChunkEnd(_) => unreachable!(),
             Place::Upgraded | Place::Stopped(_) => unreachable!(),
         }
     }
@@ -254,10 +297,10 @@ impl RequestReader {
         ensures err { OnErr result (self.new ≡ self.old) }
     {
         let Some(head) = parse_head(self.alloc, self.limits.max_headers, self.text(n))? else {
-            return Ok(self.refuse(n, Refusal::BadRequest));
+            return Ok(Next::Bad(self.refuse(n, Refusal::BadRequest)));
         };
         match request_framing(&head, &self.limits) {
-            Err(refusal) => Ok(self.refuse(n, refusal)),
+            Err(refusal) => Ok(Next::Bad(self.refuse(n, refusal))),
             Ok(framing) => self.give_request(n, head, framing),
         }
     }
@@ -301,9 +344,9 @@ impl RequestReader {
     }
 
     /// The next block of a body whose length was announced.
-    fn give_counted(&mut self, n: usize, left: u64) -> Result<Next, AllocError>
+    fn give_counted(&mut self, n: usize, left: u64) -> Result<NextOfBody, AllocError>
         requires { n ≤ length self.old.held }
-        ensures ok { IfOk result (λ item. TakesText self.old self.new (Place.Counted left) n item) }
+        ensures ok { IfOk result (λ item. TakesText self.old self.new (Place.Counted left) n (results.next_of item)) }
         ensures err { OnErr result (self.new ≡ self.old) }
     {
         let taken = n as u64;
@@ -314,9 +357,9 @@ impl RequestReader {
     }
 
     /// The next block of a chunk.
-    fn give_chunk(&mut self, n: usize, left: u64, sum: u64) -> Result<Next, AllocError>
+    fn give_chunk(&mut self, n: usize, left: u64, sum: u64) -> Result<NextOfBody, AllocError>
         requires { n ≤ length self.old.held }
-        ensures ok { IfOk result (λ item. TakesText self.old self.new (Place.Chunk left sum) n item) }
+        ensures ok { IfOk result (λ item. TakesText self.old self.new (Place.Chunk left sum) n (results.next_of item)) }
         ensures err { OnErr result (self.new ≡ self.old) }
     {
         let taken = n as u64;
@@ -328,57 +371,62 @@ impl RequestReader {
     }
 
     /// The event of a block, after which `place` is due.
-    fn give_block(&mut self, n: usize, more_body: bool, place: Place) -> Result<Next, AllocError>
+    fn give_block(
+        &mut self,
+        n: usize,
+        more_body: bool,
+        place: Place,
+    ) -> Result<NextOfBody, AllocError>
         requires { n ≤ length self.old.held }
-        ensures item { IfOk result (λ item. item ≡ Next.Event (Incoming.HttpRequest (take n self.old.held) more_body)) }
+        ensures item { IfOk result (λ item. item ≡ NextOfBody.Event (Incoming.HttpRequest (take n self.old.held) more_body)) }
         ensures ok { OnOk result (self.new ≡ after self.old n place) }
         ensures err { OnErr result (self.new ≡ self.old) }
     {
         let body = Octets::new(Vec::from_slice(self.alloc, self.text(n))?);
         self.go_on(n, place);
-        Ok(Next::Event(Incoming::HttpRequest { body, more_body }))
+        Ok(NextOfBody::Event(Incoming::HttpRequest { body, more_body }))
     }
 
     /// The empty event after a trailer section, or its refusal.
-    fn give_trailers(&mut self, n: usize) -> Next
+    fn give_trailers(&mut self, n: usize) -> NextOfBody
         requires { n ≤ length self.old.held }
-        ensures { TakesText self.old self.new Place.Trailers n result }
+        ensures { TakesText self.old self.new Place.Trailers n (results.next_of result) }
     {
         if !is_trailer(self.limits.max_headers, self.text(n)) {
-            return self.refuse(n, Refusal::BadRequest);
+            return NextOfBody::Bad(self.refuse(n, Refusal::BadRequest));
         }
         self.go_on(n, Place::BodyEnd);
         let body = Octets::new(Vec::new(self.alloc));
         let more_body = false;
-        Next::Event(Incoming::HttpRequest { body, more_body })
+        NextOfBody::Event(Incoming::HttpRequest { body, more_body })
     }
 
     /// The end of a request.
-    fn give_whole(&mut self, n: usize) -> Next
+    fn give_whole(&mut self, n: usize) -> NextOfBody
         requires { n ≤ length self.old.held }
-        ensures { TakesText self.old self.new Place.BodyEnd n result }
+        ensures { TakesText self.old self.new Place.BodyEnd n (results.next_of result) }
     {
         self.go_on(n, Place::Start);
-        Next::Whole
+        NextOfBody::Whole
     }
 
     /// The end of an opening handshake.
-    fn give_upgraded(&mut self, n: usize) -> Next
+    fn give_upgraded(&mut self, n: usize) -> NextOfBody
         requires { n ≤ length self.old.held }
-        ensures { TakesText self.old self.new Place.HandshakeEnd n result }
+        ensures { TakesText self.old self.new Place.HandshakeEnd n (results.next_of result) }
     {
         self.go_on(n, Place::Upgraded);
-        Next::Whole
+        NextOfBody::Whole
     }
 
-    /// Refuses a text.
-    fn refuse(&mut self, n: usize, refusal: Refusal) -> Next
+    /// Refuses a text, and returns the status.
+    fn refuse(&mut self, n: usize, refusal: Refusal) -> u16
         requires { n ≤ length self.old.held }
-        ensures item { result ≡ Next.Bad (status_of refusal) }
+        ensures status { result ≡ status_of refusal }
         ensures stopped { self.new ≡ after self.old n (Place.Stopped refusal) }
     {
         self.go_on(n, Place::Stopped(refusal));
-        Next::Bad(refusal.status())
+        refusal.status()
     }
 
     /// Moves past `n` bytes, after which `place` is due.

@@ -1,5 +1,5 @@
 //! The calls of a reader, limits, and what is checked of one result.
-use asgi_request::{Next, RequestReader};
+use asgi_request::{Next, NextOfBody, RequestReader};
 use asgi_types::{Incoming, Limits};
 use std::alloc::{AllocError, Global};
 
@@ -67,6 +67,10 @@ pub fn put(reader: &mut RequestReader, piece: &[u8]) -> Result<(), AllocError> {
 
 pub fn take(reader: &mut RequestReader) -> Result<Next, AllocError> {
     reader.next()
+}
+
+pub fn take_inside(reader: &mut RequestReader) -> Result<NextOfBody, AllocError> {
+    reader.next_of_body()
 }
 
 pub fn held(reader: &RequestReader) -> &[u8] {

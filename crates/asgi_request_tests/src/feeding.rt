@@ -1,5 +1,6 @@
 //! Requests that are fed in many ways, and what the reader gives for them, in words.
 use crate::calls::{Setting, new_reader, of_given, put, take};
+use crate::inside::gives_inside;
 use asgi_request::{Next, RequestReader};
 use asgi_types::{Facts, Framing, HttpScope, Incoming, Scope};
 use std::alloc::{AllocError, Global};
@@ -20,7 +21,7 @@ pub fn gives(rt: &impl Abort, alloc: Global, setting: Setting, rows: &[Row]) -> 
 }
 
 /// Fed in pieces of 1, 2, 7 and 1000 bytes, of which the last is the whole, and cut in two at each place, the bytes
-/// give the same results, which are these words.
+/// give the same results, which are these words, by either call.
 pub fn gives_in_all_ways(
     rt: &impl Abort,
     alloc: Global,
@@ -29,6 +30,8 @@ pub fn gives_in_all_ways(
     wanted: &str,
 ) -> Result<(), Fail> {
     gives_in_pieces(rt, alloc, setting, bytes, &[1, 2, 7, 1_000], wanted)?;
+    gives_inside(rt, alloc, setting, bytes, 7, wanted)?;
+    gives_inside(rt, alloc, setting, bytes, 1_000, wanted)?;
     gives_in_two(rt, alloc, setting, bytes, wanted)
 }
 
@@ -143,7 +146,7 @@ fn is_last(next: &Next) -> bool {
 }
 
 /// Adds the words of a result.
-fn add_words(next: &Next, words: &mut String) -> Result<(), AllocError> {
+pub fn add_words(next: &Next, words: &mut String) -> Result<(), AllocError> {
     match next {
         Next::Need => Ok(()),
         Next::Head(scope, facts) => add_head(scope, facts, words),
@@ -217,7 +220,7 @@ fn length_word(length: u64) -> &'static str {
     }
 }
 
-fn add_event(event: &Incoming, words: &mut String) -> Result<(), AllocError> {
+pub fn add_event(event: &Incoming, words: &mut String) -> Result<(), AllocError> {
     let Incoming::HttpRequest { body, more_body } = event else {
         return words.push_str(" another event");
     };
@@ -227,7 +230,7 @@ fn add_event(event: &Incoming, words: &mut String) -> Result<(), AllocError> {
 }
 
 /// A refusal is given again; its words are added once.
-fn add_refusal(status: u16, words: &mut String) -> Result<(), AllocError> {
+pub fn add_refusal(status: u16, words: &mut String) -> Result<(), AllocError> {
     let word = match status {
         400 => " bad 400",
         413 => " bad 413",

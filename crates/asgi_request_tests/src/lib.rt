@@ -19,6 +19,8 @@ mod heads;
 #[cfg(test)]
 mod inputs;
 #[cfg(test)]
+mod inside;
+#[cfg(test)]
 mod limits_edges;
 #[cfg(test)]
 mod memory;

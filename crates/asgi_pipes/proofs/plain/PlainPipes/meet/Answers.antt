@@ -10,7 +10,7 @@ pub returns-clause-outward : goal.returns-clause-outward
 returns-clause-outward c = rw (c.len-3.ensures, c.len-4.ensures) (left_outward c.args.conn.now c.args.app.now c.requires)
 
 pub returns-clause-heard : goal.returns-clause-heard
-returns-clause-heard c = heard_in c.args.app.now.state
+returns-clause-heard c = heard_in c.args.app.now.state.value
 
 pub returns-clause-lawful : goal.returns-clause-lawful
-returns-clause-lawful c = lawful_in c.args.app.now.state
+returns-clause-lawful c = lawful_in c.args.app.now.state.value
