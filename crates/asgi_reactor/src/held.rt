@@ -7,7 +7,7 @@ use std::alloc::{AllocError, Global};
 use std::io::{self, Write};
 
 /// How many bytes wait at the most before they are pushed, unless the stream has no room.
-pub(crate) const JOINED: usize = 16_384;
+pub(crate) const JOINED: usize = 65_536;
 
 /// How much of a write was taken.
 #[derive(Clone, Copy, Debug)]

@@ -1,5 +1,6 @@
 //! A socket that never waits.
 use crate::held::{Held, JOINED, Took};
+use asgi_ahead::Ahead;
 use asgi_io::is_passing;
 use mio::net::TcpStream;
 use std::alloc::Global;
@@ -14,18 +15,21 @@ const DRAINED: usize = 4_096;
 const READS: u32 = 16;
 
 /// A socket that never waits. It is read only once it was told that something may be there, until a read found less than
-/// it had room for. What is written is held as long as it is little, and counts as written: it goes out in one write before
-/// anything is read, and where `push` says so. What the socket does not take waits for room, and goes out before anything
-/// else is read or written. If memory for it is refused, a write takes only what the socket took.
+/// it had room for; after one that filled its room more is read at once than is asked for (`Ahead`), and the next reads give
+/// that. What is written is held as long as it is little, and counts as written: it goes out in one write before the socket
+/// is read, and where `push` says so. What the socket does not take waits for room, and goes out before anything else is
+/// read or written. If memory for it is refused, a write takes only what the socket took.
 #[derive(Drop)]
 pub struct Polled {
     stream: TcpStream,
     held: RefCell<Held>,
+    // What was read of the stream and not given yet.
+    ahead: Ahead,
     // A read may find something.
     is_readable: Cell<bool>,
     // The peer sends no more, or the socket failed: each read tells at once.
     is_ended: Cell<bool>,
-    // How many bytes were read since it was asked for.
+    // How many bytes were given since it was asked for.
     came: Cell<u64>,
     // Nothing more is read.
     is_deaf: Cell<bool>,
@@ -33,6 +37,9 @@ pub struct Polled {
     waits: Cell<bool>,
     // Some of what was held has left since it was asked for.
     has_moved: Cell<bool>,
+    // Something was written, and from the second write on none waits for an acknowledgement of the one before.
+    has_written: Cell<bool>,
+    is_prompt: Cell<bool>,
     // Nothing more can be written.
     is_broken: Cell<bool>,
     // The write half was shut.
@@ -45,12 +52,15 @@ impl Polled {
         Polled {
             stream,
             held: RefCell::new(Held::new(alloc)),
+            ahead: Ahead::new(alloc),
             is_readable: Cell::new(false),
             is_ended: Cell::new(false),
             came: Cell::new(0),
             is_deaf: Cell::new(false),
             waits: Cell::new(false),
             has_moved: Cell::new(false),
+            has_written: Cell::new(false),
+            is_prompt: Cell::new(false),
             is_broken: Cell::new(false),
             is_shut: Cell::new(false),
         }
@@ -67,7 +77,7 @@ impl Polled {
         self.is_ended.set(true);
     }
 
-    /// How many bytes were read since this was asked the last time.
+    /// How many bytes were given since this was asked the last time.
     pub fn came(&self) -> u64 {
         self.came.replace(0)
     }
@@ -99,6 +109,7 @@ impl Polled {
         if held.is_empty() {
             return true;
         }
+        self.begin_write();
         let before = held.len();
         let mut stream = &self.stream;
         let pushed = held.push(&mut stream);
@@ -111,6 +122,14 @@ impl Polled {
                 self.is_broken.set(!is_passing(&e));
                 self.is_broken.get()
             }
+        }
+    }
+
+    /// The stream is to be written. A response may leave in several writes, none of which is to wait for an acknowledgement of
+    /// the one before; of a connection with one write the system is not asked for that.
+    fn begin_write(&self) {
+        if self.has_written.replace(true) && !self.is_prompt.replace(true) {
+            let _delays = self.stream.set_nodelay(true);
         }
     }
 
@@ -128,7 +147,8 @@ impl Polled {
     }
 
     /// Goes on to close the connection: writes what is held, shuts the write half, and reads what the peer still sends
-    /// (RFC 9112, section 9.6). Whether it may be closed now: the peer has closed it too, or it failed.
+    /// (RFC 9112, section 9.6), each time it is asked, the first time only if something may be there. Whether it may be closed now:
+    /// the peer has closed it too, or it failed.
     pub fn close(&self) -> bool {
         if !self.push() {
             return false;
@@ -137,6 +157,9 @@ impl Polled {
             self.is_shut.set(true);
             if self.stream.shutdown(Shutdown::Write).is_err() {
                 return true;
+            }
+            if !self.is_readable.get() {
+                return false;
             }
         }
         self.drain()
@@ -156,16 +179,29 @@ impl Polled {
         false
     }
 
-    /// What the outcome of a read with this much room says of the next one.
-    fn note(&self, read: &io::Result<usize>, room: usize) {
+    /// Whether a read may find something: what was read ahead, or what the socket has. What is held has left before the socket
+    /// is read, and what waits for room before anything is given.
+    fn may_find(&mut self) -> bool {
+        if !self.ahead.is_empty() {
+            return !self.waits.get() || self.push();
+        }
+        if self.push() && self.is_readable.get() {
+            return true;
+        }
+        self.ahead.let_go();
+        false
+    }
+
+    /// What the outcome of a read says of the next one. One that gave what was read ahead says nothing of the socket.
+    fn note(&self, read: &io::Result<usize>, is_of_socket: bool) {
         if let Ok(many) = read {
             self.came.set(self.came.get().saturating_add(*many as u64));
         }
-        if self.is_ended.get() {
+        if !is_of_socket || self.is_ended.get() {
             return;
         }
         match read {
-            Ok(many) => self.is_readable.set(*many >= room),
+            Ok(_) => self.is_readable.set(self.ahead.was_filled()),
             Err(e) => self.is_readable.set(e.kind() != ErrorKind::WouldBlock),
         }
     }
@@ -177,11 +213,12 @@ fn would_block() -> io::Error {
 
 impl Read for Polled {
     fn read(&mut self, buf: &mut [u8]) -> io::Result<usize> {
-        if !self.push() || self.is_deaf.get() || !self.is_readable.get() {
+        if !self.may_find() || self.is_deaf.get() {
             return Err(would_block());
         }
-        let read = self.stream.read(buf);
-        self.note(&read, buf.len());
+        let is_of_socket = self.ahead.is_empty();
+        let read = self.ahead.read(&mut self.stream, buf);
+        self.note(&read, is_of_socket);
         read
     }
 }
@@ -190,6 +227,11 @@ impl Write for Polled {
     fn write(&mut self, buf: &[u8]) -> io::Result<usize> {
         if self.is_broken.get() {
             return self.stream.write(buf);
+        }
+        if buf.len() > JOINED.saturating_sub(self.held.get_mut().len()) {
+            // What is held may leave in a write of its own.
+            self.has_written.set(true);
+            self.begin_write();
         }
         let held = self.held.get_mut();
         let wrote = held.join(&mut self.stream, buf);

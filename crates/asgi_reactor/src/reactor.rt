@@ -212,8 +212,6 @@ impl<R: Clock> SocketReactor<'_, R> {
         ensures { (self.new.told ≡ self.old.told) × (self.new.left ≡ self.old.left) × (self.new.why ≡ self.old.why) }
     {
         let mut stream = stream;
-        // A response may leave in several writes, none of which is to wait for an acknowledgement of the one before.
-        let _delays = stream.set_nodelay(true);
         let token = self.queue.add(at)?;
         let both = Interest::READABLE | Interest::WRITABLE;
         if self

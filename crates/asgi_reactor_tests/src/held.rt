@@ -156,10 +156,10 @@ fn are_joined(alloc: Global) -> io::Result<bool> {
     let second = is_all(&held.join(&mut stream, b"def")?);
     let waited = first && second && held.len() == 6 && stream.written.is_empty();
     let pushed = held.push(&mut stream)? && stream.written.as_slice() == b"abcdef".as_slice();
-    let many = bytes_from(alloc, 0, 16_384)?;
+    let many = bytes_from(alloc, 0, 65_536)?;
     let one = is_all(&held.join(&mut stream, b"g")?);
     let all = one && is_all(&held.join(&mut stream, &many)?);
-    Ok(waited && pushed && all && held.is_empty() && stream.written.len() == 16_391)
+    Ok(waited && pushed && all && held.is_empty() && stream.written.len() == 65_543)
 }
 
 #[test]

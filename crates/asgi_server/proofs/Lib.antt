@@ -1,4 +1,3 @@
 pub mod AcceptLemmas
 pub mod PromiseLemmas
-pub mod ReadingLemmas
 pub mod StationLemmas

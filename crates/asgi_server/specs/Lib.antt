@@ -1,4 +1,3 @@
 pub mod Accepting
 pub mod Arrivals
 pub mod Connections
-pub mod Reading

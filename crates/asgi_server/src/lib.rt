@@ -2,7 +2,6 @@
 #![tactic(auto)]
 
 mod accepting;
-mod ahead;
 mod engine;
 mod inline_station;
 mod listener;
@@ -18,7 +17,6 @@ mod station;
 mod system;
 mod waiting;
 
-pub use ahead::Ahead;
 pub use asgi_crew::{End, Shared, Teller, Workers};
 pub use asgi_lifespan::{Lifespan, Start, Stop};
 pub use engine::{Engine, Threadless};

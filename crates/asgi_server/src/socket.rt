@@ -1,9 +1,9 @@
 //! A socket that is closed only once its peer had time to read what was written.
 ghost use Rattle.std.specs.Prelude.{◌≡◌};
 ghost use Rattle.std.specs.Io.{WritesAtMost};
-ghost use Rattle.asgi_server.specs.Reading.{left};
+ghost use Rattle.asgi_ahead.specs.Reading.{left};
 
-use crate::ahead::Ahead;
+use asgi_ahead::Ahead;
 use asgi_io::is_passing;
 use std::alloc::Global;
 use std::io::{self, ErrorKind, Read, Write};

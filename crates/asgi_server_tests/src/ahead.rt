@@ -1,5 +1,5 @@
 //! What is read of a stream ahead of what is asked for.
-use asgi_server::Ahead;
+use asgi_ahead::Ahead;
 use std::alloc::{AllocGlobal, Global};
 use std::io::{self, Read};
 use std::test::Fail;

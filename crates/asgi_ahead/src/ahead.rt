@@ -1,8 +1,8 @@
 //! What is read of a stream ahead of what is asked for.
-ghost use Rattle.std.specs.Prelude.{◌≡◌, ◌<◌, ◌≤◌, ℕ, List, Option, true, vec_len};
+ghost use Rattle.std.specs.Prelude.{◌≡◌, ◌↔◌, ◌<◌, ◌≤◌, ℕ, List, Option, true, IsTrue, vec_len};
 ghost use Rattle.std.specs.Io.{ReadsAtMost};
 ghost use Rattle.std.specs.Io.KnownBytes.{IsAtEnd, ReadConsumes};
-ghost use Rattle.asgi_server.specs.Reading.{left};
+ghost use Rattle.asgi_ahead.specs.Reading.{left};
 
 use std::alloc::Global;
 use std::io::{self, Read};
@@ -17,6 +17,7 @@ const AHEAD: usize = 65_536;
 /// The memory is taken with the first such read. If it is refused, nothing is read ahead.
 #[derive(Drop)]
 pub struct Ahead {
+    alloc: Global,
     // `buf[start..end]` was read and not given yet.
     buf: Vec<u8>,
     start: usize,
@@ -33,10 +34,37 @@ impl Ahead {
         ensures { result.start ≡ result.end }
     {
         Ahead {
+            alloc,
             buf: Vec::new(alloc),
             start: 0,
             end: 0,
             was_filled: false,
+        }
+    }
+
+    /// Whether nothing is held, so that the next read is one of the stream.
+    pub fn is_empty(&self) -> bool
+        ensures { IsTrue result ↔ (self.now.start ≡ self.now.end) }
+    {
+        self.start == self.end
+    }
+
+    /// Whether the last read of the stream filled all the room that it was given, so that there may be more.
+    pub fn was_filled(&self) -> bool
+        ensures { result ≡ self.now.was_filled }
+    {
+        self.was_filled
+    }
+
+    /// Gives the memory back, unless something is held. It is taken again once a read has filled its room.
+    pub fn let_go(&mut self)
+        ensures held { (self.new.start ≡ self.new.end) ↔ (self.old.start ≡ self.old.end) }
+        ensures bytes { (known : Option (List ℕ)) → left self.new.buf.items self.new.start self.new.end known ≡ left self.old.buf.items self.old.start self.old.end known }
+    {
+        if self.is_empty() {
+            self.start = 0;
+            self.end = 0;
+            self.buf = Vec::new(self.alloc);
         }
     }
 

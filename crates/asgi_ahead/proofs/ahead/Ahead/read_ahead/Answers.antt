@@ -1,8 +1,8 @@
 use Rattle.std.proofs.Common.{◌++◌, length, take, drop, sym, arith}
 use Rattle.std.specs.Io.KnownBytes.{Keeps}
-use Rattle.asgi_server.specs.Reading.{left}
-use Rattle.asgi_server.proofs.ReadingLemmas.{left_nothing, held, after_keeping, written_front}
-use Rattle.asgi_server.proofs.ahead.Ahead.read_ahead.Goals as goal
+use Rattle.asgi_ahead.specs.Reading.{left}
+use Rattle.asgi_ahead.proofs.ReadingLemmas.{left_nothing, held, after_keeping, written_front}
+use Rattle.asgi_ahead.proofs.ahead.Ahead.read_ahead.Goals as goal
 
 pub returns-clause-bytes : goal.returns-clause-bytes
 returns-clause-bytes g c =

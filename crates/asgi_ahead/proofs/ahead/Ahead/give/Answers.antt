@@ -1,6 +1,6 @@
 use Rattle.std.proofs.Common.{◌≡◌, ◌<◌, ◌≤◌, ◌-◌, ◌++◌, length, take, drop, slice_range, sym, ap, ◌∙◌, arith, subst}
-use Rattle.asgi_server.proofs.ReadingLemmas.{given, ends_meet}
-use Rattle.asgi_server.proofs.ahead.Ahead.give.Goals as goal
+use Rattle.asgi_ahead.proofs.ReadingLemmas.{given, ends_meet}
+use Rattle.asgi_ahead.proofs.ahead.Ahead.give.Goals as goal
 
 pub returns-clause-bytes : goal.returns-clause-bytes
 returns-clause-bytes c known ended =

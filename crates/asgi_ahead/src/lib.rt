@@ -1,0 +1,6 @@
+//! Reading a stream ahead of what is asked for.
+#![tactic(auto)]
+
+mod ahead;
+
+pub use ahead::Ahead;
