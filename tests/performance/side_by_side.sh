@@ -1,17 +1,19 @@
 #!/usr/bin/env bash
 # What requests cost beside hyper, over real sockets of the loopback address, one client and one connection at a time:
-#   one    a server in one thread over these crates (`Inline`), which stands in threads.sh
+#   seats  `asgi_many_example`: all connections in one thread, as `Server` of nomtsage serves by itself
+#   one    a server in one thread over these crates (`Inline`), which serves one connection after another; it stands in threads.sh
 #   two    `asgi_demo serve PORT COUNT APP 1`: one worker, whose application has a thread of its own (`Beside`)
 #   hyper  Debian's hyper on one thread of tokio; its program stands below
 # Part `times`: processor time of the server (user's and system's) and requests a second, so many rounds, each row by turns; of
 # each number the median, and of each ratio the median of the rounds' ratios, with the least and the most. Part `counts`, which
 # no load moves: instructions a request (callgrind, so without the system's), its system calls (strace), and memory. Part
 # `once`: instructions of `once hello` beside the toolchain's http_server, by connection.sh.
-# Usage: tests/performance/side_by_side.sh ROUNDS [PROGRAM [ONE [HYPER]]]
-# What is not given is built: PROGRAM by `make demo`, ONE by `threads.sh build`, HYPER by cargo over Debian's crates, which are
-# installed where they are missing. It needs gcc, valgrind and strace. PARTS ("times counts once") says what is printed.
+# Usage: tests/performance/side_by_side.sh ROUNDS [PROGRAM [ONE [HYPER [SEATS]]]]
+# What is not given is built: PROGRAM by `make demo`, ONE by `threads.sh build`, SEATS by `make check NAME=asgi_many_example`, HYPER
+# by cargo over Debian's crates, which are installed where they are missing. It needs gcc, valgrind and strace. PARTS ("times
+# counts once") says what is printed.
 set -eu
-rounds=$1 program=${2:+$(realpath "$2")} one=${3:+$(realpath "$3")} hyper=${4:+$(realpath "$4")}
+rounds=$1 program=${2:+$(realpath "$2")} one=${3:+$(realpath "$3")} hyper=${4:+$(realpath "$4")} seats=${5:+$(realpath "$5")}
 cd "$(dirname "$0")/../.."
 folder=$(mktemp -d)
 pid=
@@ -45,6 +47,7 @@ start() {
   shift 2
   port=$((20000 + RANDOM % 10000))
   case $server in
+    seats) "$@" "$seats" "127.0.0.1:$port" 1000 1000 "$app" >/dev/null 2>"$folder/errors" & ;;
     one) "$@" "$one" serve "$port" 1000 "$app" >/dev/null 2>"$folder/errors" & ;;
     two) "$@" "$program" serve "$port" 1000 "$app" 1 >/dev/null 2>"$folder/errors" & ;;
     hyper) "$@" "$hyper" "$port" >/dev/null 2>"$folder/errors" & ;;
@@ -76,7 +79,7 @@ trips() { timeout 300 "$folder/trips" "$port" "$1" "$2"; }
 requests_in() { case $1 in hello:*) echo "${1#hello:}" ;; *) echo 1 ;; esac; }
 
 # Which servers have a row: hyper has no sessions.
-servers_of() { case $1 in wsecho) echo one two ;; *) echo one hyper two ;; esac; }
+servers_of() { case $1 in wsecho) echo seats one two ;; *) echo seats hyper one two ;; esac; }
 
 times() {
   local round at name app what count server before many
@@ -112,11 +115,12 @@ def ratio(name, server, other, which):
     of = [a / b for a, b in zip(all_of(name, server, which), all_of(name, other, which))]
     return f"{statistics.median(of):.2f} ({min(of):.2f} to {max(of):.2f})" if of else ""
 
-print("| microseconds of a processor, requests a second | `one` | hyper | time, of hyper's | rate, of hyper's | `two`: time, of `one`'s | rate, of `one`'s |")
-print("|---|---|---|---|---|---|---|")
+print("| microseconds of a processor, requests a second | `seats` | hyper | time, of hyper's | rate, of hyper's | `one` | time, of hyper's | `two`: time, of `one`'s |")
+print("|---|---|---|---|---|---|---|---|")
 for name in names:
-    ratios = [ratio(name, *both, which) for both in (("one", "hyper"), ("two", "one")) for which in (0, 1)]
-    print(f"| {' | '.join([name, numbers(name, 'one'), numbers(name, 'hyper'), *ratios])} |")
+    of_hyper = [ratio(name, "seats", "hyper", which) for which in (0, 1)]
+    of_one = [ratio(name, "one", "hyper", 0), ratio(name, "two", "one", 0)]
+    print(f"| {' | '.join([name, numbers(name, 'seats'), numbers(name, 'hyper'), *of_hyper, numbers(name, 'one'), *of_one])} |")
 P
 }
 
@@ -146,10 +150,10 @@ memory_of() { awk -v name="$1:" '$1 == name { printf "%.1f", $2 / 1024 }' /proc/
 
 counts() {
   local name app what server line
-  printf '| instructions a request | `one` | hyper |\n|---|---|---|\n'
+  printf '| instructions a request | `seats` | `one` | hyper |\n|---|---|---|---|\n'
   while IFS='|' read -r name app what; do
     line="| $name |"
-    instructions one "$app" "$what"
+    for server in seats one; do instructions "$server" "$app" "$what"; done
     [ "$app" = wsecho ] || instructions hyper "$app" "$what"
     echo "$line"
   done <<'P'
@@ -162,10 +166,10 @@ WebSocket echo of 1 byte|wsecho|ws:1
 WebSocket echo of 1 KiB|wsecho|ws:1024
 WebSocket echo of 64 KiB|wsecho|ws:65536
 P
-  printf '\n| reads and writes of a request | `one` | `two` | hyper |\n|---|---|---|---|\n'
+  printf '\n| reads and writes of a request | `seats` | `one` | `two` | hyper |\n|---|---|---|---|---|\n'
   while IFS='|' read -r name app what; do
     line="| $name |"
-    for server in one two hyper; do calls "$server" "$app" "$what"; done
+    for server in seats one two hyper; do calls "$server" "$app" "$what"; done
     echo "$line"
   done <<'P'
 a greeting|hello|hello
@@ -174,7 +178,7 @@ echo of 64 KiB|echo|echo:65536
 echo of 1 MiB|echo|echo:1048576
 P
   printf '\n| memory, MB | idle | the most, by echoes of 1 MiB |\n|---|---|---|\n'
-  for server in one two hyper; do
+  for server in seats one two hyper; do
     start "$server" echo
     line="| $server | $(memory_of VmRSS)"
     trips echo:1048576 20 >/dev/null
@@ -191,6 +195,7 @@ load() { echo "load $(cut -d' ' -f1-3 /proc/loadavg), $(nproc) processors, $(dat
 if wants times || wants counts; then
   [ -n "$one" ] || { quietly tests/performance/threads.sh build "$folder/one"; one=$folder/one/crates/one_thread/out/one_thread; }
   [ -n "$hyper" ] || build_hyper
+  [ -n "$seats" ] || { quietly make -s check NAME=asgi_many_example; seats=$PWD/crates/asgi_many_example/out/asgi_many_example; }
 fi
 load
 for part in times counts; do
