@@ -362,6 +362,33 @@ class Library(unittest.TestCase):
             ends = sorted(line.partition(": ")[2] for line in told[1:])
             self.assertEqual((ends, status), (["1 requests, finished", "1 requests, refused 500"], 0))
 
+    def lines_at(self, line, count):
+        """When each line of a content in chunks came, up to so many: `first` and `last` of each response."""
+        found, text = [], b""
+        while len(found) < count:
+            piece = line.recv(1 << 16)
+            self.assertNotEqual(piece, b"", text)
+            text += piece
+            while len(found) < len(re.findall(rb"(?:first|last)\n", text)):
+                found.append(time.monotonic())
+        return found
+
+    def test_what_was_said_leaves_before_the_work_that_follows(self):
+        for app in ("works", "worksworker", "seatswaits"):
+            with self.subTest(app=app), Own(app) as own:
+                with socket.create_connection(("127.0.0.1", own.port()), timeout=SECONDS) as line:
+                    line.sendall(b"GET /works HTTP/1.1\r\nHost: a\r\nConnection: close\r\n\r\n")
+                    first, last = self.lines_at(line, 2)
+                    self.assertGreater(last - first, 0.7)
+
+    def test_an_answer_leaves_before_the_work_of_the_request_behind_it(self):
+        for app in ("works", "worksworker", "seatswaits"):
+            with self.subTest(app=app), Own(app) as own:
+                with socket.create_connection(("127.0.0.1", own.port()), timeout=SECONDS) as line:
+                    line.sendall(b"GET / HTTP/1.1\r\nHost: a\r\n\r\nGET /works HTTP/1.1\r\nHost: a\r\nConnection: close\r\n\r\n")
+                    _, answered, _, last = self.lines_at(line, 4)
+                    self.assertGreater(last - answered, 0.7)
+
     def test_a_stop_that_fails(self):
         for app in ("nostop", "seatsnostop"):
             with self.subTest(app=app), Own(app) as own:

@@ -5,6 +5,7 @@ mod ends;
 mod fails;
 mod silent;
 mod words;
+mod works;
 
 use ends::Ends;
 use fails::Fails;
@@ -15,6 +16,7 @@ use std::net::Net;
 use std::process::ExitCode;
 use std::time::Clock;
 use words::{App, Seated, Served, Words, usage, words_of};
+use works::Works;
 
 fn main(rt: HostRuntime) -> ExitCode {
     let Some(words) = words_of(&rt) else {
@@ -29,6 +31,12 @@ fn main(rt: HostRuntime) -> ExitCode {
             } else {
                 server.in_threads().serve(&rt, &Hello)
             };
+        }
+        Served::WorksInWorker => {
+            let server = Server::at(words.address).connections(words.count);
+            return server
+                .in_worker(&rt)
+                .serve(&rt, &Works { rt, waits: false });
         }
         Served::Seated(app) => return seated(&rt, &words, app),
     };
@@ -46,11 +54,12 @@ fn main(rt: HostRuntime) -> ExitCode {
         App::NoStart => server.serve(&rt, &Life::NoStart),
         App::NoStop => server.serve(&rt, &Life::NoStop),
         App::Silent(silent) => server.limits(few_turns()).serve(&rt, &silent),
+        App::Works => server.serve(&rt, &Works { rt, waits: false }),
     }
 }
 
 /// Serves the application in seats.
-fn seated<H: Net + Clock + Log + Host>(rt: &H, words: &Words, app: Seated) -> ExitCode {
+fn seated<H: Net + Clock + Log + Host + Drop>(rt: &H, words: &Words, app: Seated) -> ExitCode {
     let stop = Stop::new();
     let server = Server::at(words.address)
         .connections(words.count)
@@ -62,6 +71,13 @@ fn seated<H: Net + Clock + Log + Host>(rt: &H, words: &Words, app: Seated) -> Ex
         Seated::Ends => server.serve(rt, &Ends { stop: &stop }),
         Seated::NoStart => server.serve(rt, &Life::NoStart),
         Seated::NoStop => server.serve(rt, &Life::NoStop),
+        Seated::Waits => server.serve(
+            rt,
+            &Works {
+                rt: *rt,
+                waits: true,
+            },
+        ),
     }
 }
 

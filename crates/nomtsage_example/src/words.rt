@@ -15,6 +15,7 @@ pub enum App {
     NoStart,
     NoStop,
     Silent(Silent),
+    Works,
 }
 
 /// What is served, and how.
@@ -24,6 +25,8 @@ pub enum Served {
     Logged(App),
     /// `Hello`, by a server that tells nobody of its connections, with its tasks in threads or in its workers.
     Quiet { in_worker: bool },
+    /// `Works`, by such a server with its tasks in its workers.
+    WorksInWorker,
     /// The application, by a server that logs its connections, which are in as many seats as there are to be workers.
     Seated(Seated),
 }
@@ -35,6 +38,7 @@ pub enum Seated {
     Ends,
     NoStart,
     NoStop,
+    Waits,
 }
 
 /// What the words ask for.
@@ -66,10 +70,12 @@ fn served_named(name: &str) -> Option<Served> {
     match name {
         "quiet" => Some(Served::Quiet { in_worker: false }),
         "quietworker" => Some(Served::Quiet { in_worker: true }),
+        "worksworker" => Some(Served::WorksInWorker),
         "seats" => Some(Served::Seated(Seated::Hello)),
         "seatsends" => Some(Served::Seated(Seated::Ends)),
         "seatsnostart" => Some(Served::Seated(Seated::NoStart)),
         "seatsnostop" => Some(Served::Seated(Seated::NoStop)),
+        "seatswaits" => Some(Served::Seated(Seated::Waits)),
         _ => Some(Served::Logged(app_named(name)?)),
     }
 }
@@ -83,6 +89,7 @@ fn app_named(name: &str) -> Option<App> {
         "nostop" => Some(App::NoStop),
         "silentstart" => Some(App::Silent(Silent::Start)),
         "silentstop" => Some(App::Silent(Silent::Stop)),
+        "works" => Some(App::Works),
         _ => None,
     }
 }
