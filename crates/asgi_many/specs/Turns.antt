@@ -1,6 +1,8 @@
 -- What a turn of a named seat did.
 use Rattle.std.specs.Prelude.{◌≡◌, ⊤, List, Option, Some, None, IsSomeAnd, slice_set}
-use Rattle.asgi_conn.specs.Standing.{TakesOne}
+use Rattle.asgi_conn.specs.declared.connection.Step.{Step}
+use Rattle.asgi_conn.specs.declared.connection.Step.TheVariants as step
+use Rattle.asgi_conn.specs.Standing.{IsReportOf, TakesOne}
 use Rattle.asgi_many.specs.declared.seat.Cause.{Cause}
 use Rattle.asgi_many.specs.declared.seat.Cause.TheVariants.{Wake, Tick}
 use Rattle.asgi_many.specs.declared.seat.Ended.{Ended}
@@ -34,3 +36,12 @@ TurnsSeat cause NoOne old new = (old ≡ None) × (new ≡ None)
 TurnsSeat cause Moved old new = IsSomeAnd old (λ was. IsSomeAnd new (λ is. TakesOne was.connection is.connection))
 TurnsSeat cause Idle old new = IsSomeAnd old (λ was. IsSomeAnd new (λ is. CountsIdle cause was is))
 TurnsSeat cause (Over end) old new = IsSomeAnd old (λ was. was.number ≡ end.number) × (new ≡ None)
+
+-- ---- a word of private functions
+
+-- The same, but a connection that has ended sits on, with this report.
+abbrev pub LooksAt : {X L : Type 0} → Cause → Option Step → Option (Seat X L) → Option (Seat X L) → Type 0
+LooksAt cause None old new = (old ≡ None) × (new ≡ None)
+LooksAt cause (Some step.Moved) old new = IsSomeAnd old (λ was. IsSomeAnd new (λ is. TakesOne was.connection is.connection))
+LooksAt cause (Some step.Idle) old new = IsSomeAnd old (λ was. IsSomeAnd new (λ is. CountsIdle cause was is))
+LooksAt cause (Some (step.Over report)) old new = IsSomeAnd old (λ was. IsSomeAnd new (λ is. (is.number ≡ was.number) × IsReportOf is.connection report))

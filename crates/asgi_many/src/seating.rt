@@ -7,7 +7,7 @@ ghost use Rattle.asgi_conn.specs.Standing.{IsReportOf, StandsAt};
 ghost use Rattle.asgi_many.specs.declared.seat.Ended.{Ended};
 ghost use Rattle.asgi_many.specs.declared.seat.Newcomer.{Newcomer};
 ghost use Rattle.asgi_many.specs.Standing.{Holds, IsEmpty, IsFull, IsServed};
-ghost use Rattle.asgi_many.specs.Turns.{IfOver, TurnsSeat, ended_after};
+ghost use Rattle.asgi_many.specs.Turns.{IfOver, LooksAt, TurnsSeat, ended_after};
 
 use crate::seat::{Cause, Ended, Newcomer, Seat};
 use crate::table::{Table, Turned};
@@ -178,6 +178,33 @@ impl<X, L: Line> Table<X, L> {
             Step::Idle => Turned::Idle,
             Step::Over(report) => Turned::Over(self.free(at, report)),
         }
+    }
+
+    /// Takes a turn of the connection in that seat as `turn` does, but leaves one that has ended where it sits: its next turn
+    /// hands over what is left of it. What it returns is small, and most turns end nothing. `None` if nobody sits there.
+    pub(crate) fn look<A: Application, U: Runner<A::Task, Exchange = X>>(
+        &mut self,
+        at: usize,
+        cause: Cause,
+        state: &State,
+        calls: &mut Calls<'_, A>,
+        runner: &mut U,
+    ) -> Option<Step>
+        requires { (came : List (Newcomer L)) × (ended : List (Option (Ended L)))
+            × Holds A.Task.answers U.Pipes.Conn.ConnEnd U.Pipes.App.AppEnd U.conn U.began (A.answers calls.old.app.now) L.state state.now came self.old ended }
+        ensures holds { (came : List (Newcomer L)) (ended : List (Option (Ended L)))
+            → Holds A.Task.answers U.Pipes.Conn.ConnEnd U.Pipes.App.AppEnd U.conn U.began (A.answers calls.old.app.now) L.state state.now came self.old ended
+            → Holds A.Task.answers U.Pipes.Conn.ConnEnd U.Pipes.App.AppEnd U.conn U.began (A.answers calls.old.app.now) L.state state.now came self.new ended }
+        ensures looked { LooksAt cause result (get self.old.seats at) (get self.new.seats at) }
+        ensures others { (other : ℕ) → other ≢ at → get self.new.seats other ≡ get self.old.seats other }
+        ensures limits { (self.new.limits ≡ self.old.limits) × (self.new.places ≡ self.old.places) }
+        ensures same { calls.new.app.now ≡ calls.old.app.now }
+    {
+        let seat = self.seats.get_mut(at)?;
+        seat.swap_piece(&mut self.piece);
+        let step = seat.turn(cause, state, calls, runner);
+        seat.swap_piece(&mut self.piece);
+        Some(step)
     }
 
     /// Frees the seat of a connection that has ended with this report.

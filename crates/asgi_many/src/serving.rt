@@ -9,7 +9,7 @@ use crate::reactor::{Next, Reactor, Ready};
 use crate::seat::{Cause, Departure, Ended};
 use crate::table::{Table, Turned};
 use asgi_apps::{Application, Calls};
-use asgi_conn::Runner;
+use asgi_conn::{Runner, Step};
 use asgi_desk::Teller;
 use asgi_types::{Limits, State};
 use std::alloc::{AllocError, Global};
@@ -165,6 +165,43 @@ fn go_on<
     if !reactor.may_go_on(at, line) {
         return;
     }
+    match table.look(at, cause, state, calls, runner) {
+        None => {}
+        Some(Step::Moved) => reactor.again(at),
+        Some(Step::Idle) => rests(table, at, reactor),
+        Some(Step::Over(_)) => leave(table, at, cause, state, calls, reactor, runner, teller),
+    }
+}
+
+/// Hands over what is left of the connection in this seat, which has ended. Out of line, since it is much, and most turns end
+/// nothing.
+#[inline(never)]
+fn leave<
+    X: Drop,
+    A: Application,
+    N: Reactor,
+    U: Runner<A::Task, Exchange = X>,
+    K: Teller<Departure>,
+>(
+    table: &mut Table<X, N::L>,
+    at: usize,
+    cause: Cause,
+    state: &State,
+    calls: &mut Calls<'_, A>,
+    reactor: &mut N,
+    runner: &mut U,
+    teller: &mut K,
+)
+    requires { (limits : Limits) × (asked : List (Next N.L)) × (told : K)
+        × Going A.Task.answers U.Pipes.Conn.ConnEnd U.Pipes.App.AppEnd U.conn U.began (A.answers calls.old.app.now) N.L.state limits state.now K.tells
+        asked (N.answers reactor.old) told teller.old table.old }
+    ensures goes_on { (limits : Limits) (asked : List (Next N.L)) (told : K)
+        → Going A.Task.answers U.Pipes.Conn.ConnEnd U.Pipes.App.AppEnd U.conn U.began (A.answers calls.old.app.now) N.L.state limits state.now K.tells
+        asked (N.answers reactor.old) told teller.old table.old
+        → Going A.Task.answers U.Pipes.Conn.ConnEnd U.Pipes.App.AppEnd U.conn U.began (A.answers calls.old.app.now) N.L.state limits state.now K.tells
+        asked (N.answers reactor.new) told teller.new table.new }
+    ensures same { calls.new.app.now ≡ calls.old.app.now }
+{
     match table.turn(at, cause, state, calls, runner) {
         Turned::NoOne => {}
         Turned::Moved => reactor.again(at),

@@ -7,7 +7,12 @@ use std::alloc::{AllocError, Global};
 use std::io::{self, Write};
 
 /// How many bytes wait at the most before they are pushed, unless the stream has no room.
-pub(crate) const JOINED: usize = 65_536;
+///
+/// A body event has 16 KiB unless set otherwise: there is room for four, the head and what frames them.
+pub(crate) const JOINED: usize = 69_632;
+
+/// How many bytes are many: once so many wait, more are likely to follow.
+const MANY: usize = 4_096;
 
 /// How much of a write was taken.
 #[derive(Clone, Copy, Debug)]
@@ -111,11 +116,21 @@ impl Held {
         ensures bytes { TakesOn (taken (W.contents stream.old) self.old.buf.items self.old.start) (taken (W.contents stream.new) self.new.buf.items self.new.start) result buf.now }
     {
         if buf.len() <= JOINED.saturating_sub(self.len()) {
+            self.make_room(buf.len());
             if let Ok(()) = self.put(buf) {
                 return Ok(Took::All);
             }
         }
         self.write(stream, buf)
+    }
+
+    /// Takes room for all that may wait, if this many bytes are the first. Where that is refused, `put` takes what it needs.
+    fn make_room(&mut self, many: usize)
+        ensures { waiting self.new.buf.items self.new.start ≡ waiting self.old.buf.items self.old.start }
+    {
+        if many >= MANY && self.buf.is_empty() {
+            let _taken = self.buf.reserve(JOINED);
+        }
     }
 
     /// All of these bytes wait, or none of them.

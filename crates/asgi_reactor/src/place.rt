@@ -182,10 +182,13 @@ impl Place {
         self.is_silent || self.is_blocked
     }
 
-    /// Its connection rests. It ends as if its client were silent from here on if that sends the bytes of a head or a body too
+    /// Its connection rests. If nothing came since it did before, its memory for what is read ahead is given back. It ends as if its client were silent from here on if that sends the bytes of a head or a body too
     /// slowly, or if the server ends.
     pub(crate) fn rests(&mut self, polled: &Polled, rest: Rest, clocked: Clocked) {
         let came = polled.came();
+        if came == 0 {
+            polled.let_go();
+        }
         if clocked.is_over(rest.standing) || self.is_too_slow(came, rest, clocked) {
             self.is_deaf = true;
             polled.stop_reading();

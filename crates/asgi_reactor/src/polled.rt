@@ -24,7 +24,7 @@ pub struct Polled {
     stream: TcpStream,
     held: RefCell<Held>,
     // What was read of the stream and not given yet.
-    ahead: Ahead,
+    ahead: RefCell<Ahead>,
     // A read may find something.
     is_readable: Cell<bool>,
     // The peer sends no more, or the socket failed: each read tells at once.
@@ -52,7 +52,7 @@ impl Polled {
         Polled {
             stream,
             held: RefCell::new(Held::new(alloc)),
-            ahead: Ahead::new(alloc),
+            ahead: RefCell::new(Ahead::new(alloc)),
             is_readable: Cell::new(false),
             is_ended: Cell::new(false),
             came: Cell::new(0),
@@ -80,6 +80,13 @@ impl Polled {
     /// How many bytes were given since this was asked the last time.
     pub fn came(&self) -> u64 {
         self.came.replace(0)
+    }
+
+    /// Gives back the memory for what is read ahead, unless something is held in it.
+    pub fn let_go(&self) {
+        if let Ok(mut ahead) = self.ahead.try_borrow_mut() {
+            ahead.let_go();
+        }
     }
 
     /// From here on each read would wait.
@@ -182,26 +189,19 @@ impl Polled {
     /// Whether a read may find something: what was read ahead, or what the socket has. What is held has left before the socket
     /// is read, and what waits for room before anything is given.
     fn may_find(&mut self) -> bool {
-        if !self.ahead.is_empty() {
+        if !self.ahead.get_mut().is_empty() {
             return !self.waits.get() || self.push();
         }
-        if self.push() && self.is_readable.get() {
-            return true;
-        }
-        self.ahead.let_go();
-        false
+        self.push() && self.is_readable.get()
     }
 
-    /// What the outcome of a read says of the next one. One that gave what was read ahead says nothing of the socket.
-    fn note(&self, read: &io::Result<usize>, is_of_socket: bool) {
-        if let Ok(many) = read {
-            self.came.set(self.came.get().saturating_add(*many as u64));
-        }
-        if !is_of_socket || self.is_ended.get() {
+    /// What the outcome of a read of the socket, which filled its room or did not, says of the next one.
+    fn note(&self, read: &io::Result<usize>, was_filled: bool) {
+        if self.is_ended.get() {
             return;
         }
         match read {
-            Ok(_) => self.is_readable.set(self.ahead.was_filled()),
+            Ok(_) => self.is_readable.set(was_filled),
             Err(e) => self.is_readable.set(e.kind() != ErrorKind::WouldBlock),
         }
     }
@@ -216,9 +216,16 @@ impl Read for Polled {
         if !self.may_find() || self.is_deaf.get() {
             return Err(would_block());
         }
-        let is_of_socket = self.ahead.is_empty();
-        let read = self.ahead.read(&mut self.stream, buf);
-        self.note(&read, is_of_socket);
+        let ahead = self.ahead.get_mut();
+        let is_of_socket = ahead.is_empty();
+        let read = ahead.read(&mut self.stream, buf);
+        let was_filled = ahead.was_filled();
+        if let Ok(many) = &read {
+            self.came.set(self.came.get().saturating_add(*many as u64));
+        }
+        if is_of_socket {
+            self.note(&read, was_filled);
+        }
         read
     }
 }

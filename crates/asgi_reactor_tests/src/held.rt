@@ -150,16 +150,16 @@ fn bytes_stay_as_the_stream_fails(rt: HostRuntime) -> Result<(), Fail> {
 
 /// Whether few bytes wait for a push, which writes them at once, and what comes with many leaves at once behind them.
 fn are_joined(alloc: Global) -> io::Result<bool> {
-    let mut stream = Narrow::new(alloc, 65_536)?;
+    let mut stream = Narrow::new(alloc, 131_072)?;
     let mut held = Held::new(alloc);
     let first = is_all(&held.join(&mut stream, b"abc")?);
     let second = is_all(&held.join(&mut stream, b"def")?);
     let waited = first && second && held.len() == 6 && stream.written.is_empty();
     let pushed = held.push(&mut stream)? && stream.written.as_slice() == b"abcdef".as_slice();
-    let many = bytes_from(alloc, 0, 65_536)?;
+    let many = bytes_from(alloc, 0, 69_632)?;
     let one = is_all(&held.join(&mut stream, b"g")?);
     let all = one && is_all(&held.join(&mut stream, &many)?);
-    Ok(waited && pushed && all && held.is_empty() && stream.written.len() == 65_543)
+    Ok(waited && pushed && all && held.is_empty() && stream.written.len() == 69_639)
 }
 
 #[test]
