@@ -17,12 +17,11 @@ none_did works [] (now ∷ new) each = absurd each
 none_did works (first ∷ old) [] each = absurd each
 
 -- the thread of one more part has ended
-pub one_joined : {W : Type 0} (works : W → W → Type 0) (may so_far seen : Bool) (first now then : W) (old new all whole : List W) (was is : W)
-    → Each (Did works so_far) (first ∷ old) (now ∷ new) → Did works seen was is → seen ≡ so_far → may ≡ so_far
-    → whole ≡ old ++ was ∷ [] → then ≡ now → all ≡ new ++ is ∷ [] → Each (Did works may) (first ∷ whole) (then ∷ all)
-one_joined {W} works may so_far seen first now then old new all whole was is each this agrees same grown stays more =
+pub one_joined : {W : Type 0} (works : W → W → Type 0) (may so_far seen : Bool) (old new all whole : List W) (was is : W)
+    → Each (Did works so_far) old new → Did works seen was is → seen ≡ so_far → may ≡ so_far
+    → whole ≡ old ++ was ∷ [] → all ≡ new ++ is ∷ [] → Each (Did works may) whole all
+one_joined {W} works may so_far seen old new all whole was is each this agrees same grown more =
     let one : Did works so_far was is = subst (λ b. Did works b was is) agrees this in
-    subst (λ b. Each (Did works b) (first ∷ whole) (then ∷ all)) (sym same)
-    (subst (λ (l : List W). Each (Did works so_far) (first ∷ l) (then ∷ all)) (sym grown)
-    (subst (λ (x : W). Each (Did works so_far) (first ∷ (old ++ was ∷ [])) (x ∷ all)) (sym stays)
-    (subst (λ (l : List W). Each (Did works so_far) (first ∷ (old ++ was ∷ [])) (now ∷ l)) (sym more) (each.0, one_more (Did works so_far) old new was is each.1 one))))
+    subst (λ b. Each (Did works b) whole all) (sym same)
+    (subst (λ (l : List W). Each (Did works so_far) l all) (sym grown)
+    (subst (λ (l : List W). Each (Did works so_far) (old ++ was ∷ []) l) (sym more) (one_more (Did works so_far) old new was is each one)))

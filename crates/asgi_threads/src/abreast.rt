@@ -2,7 +2,7 @@
 ghost use Rattle.std.specs.Prelude.{◌≡◌, ◌≤◌, ◌<◌, [], ◌∷◌, ◌++◌, IsTrue, IsFalse, vec_len, vec_capacity};
 ghost use Rattle.asgi_threads.specs.Abreast.{Did, Each};
 
-use crate::gate::{Gate, Worked, decide, work_at};
+use crate::gate::{Gate, Worked, decide, wait_at, work_at};
 use crate::works::Works;
 use std::snapshot::Snapshot;
 use std::sync::{OnceLock, OnceToken, Wait};
@@ -11,10 +11,8 @@ use std::thread::{self, Promise, Scope, Threads};
 /// What came of several parts.
 #[derive(Drop)]
 pub struct Abreast<W: Drop> {
-    /// The part of the caller's thread.
-    pub first: W,
-    /// The others, in their order.
-    pub others: Vec<W>,
+    /// The parts, in their order.
+    pub parts: Vec<W>,
     /// Whether they were worked at: each of them, or none, since a thread was refused.
     pub has_worked: bool,
 }
@@ -37,58 +35,50 @@ impl<'s, W: Drop, E: Works<W>> Promise<Worked<'s, W>> for Keeps<W, E> {
 /// The parts whose threads have ended, and what shows whether the gate was opened.
 #[derive(Drop)]
 struct Ended<'s, W: Drop> {
-    first: W,
-    others: Vec<W>,
+    parts: Vec<W>,
     seen: OnceToken<'s, bool>,
 }
 
 /// One more part whose thread has ended.
 fn joined<'s, W: Drop>(so_far: Ended<'s, W>, worked: Worked<'s, W>) -> Ended<'s, W>
     requires of { so_far.seen.of ≡ worked.seen.of }
-    requires room { vec_len so_far.others < vec_capacity so_far.others }
+    requires room { vec_len so_far.parts < vec_capacity so_far.parts }
     ensures seen { (result.seen.of ≡ so_far.entry.seen.of) × (result.seen.value ≡ so_far.entry.seen.value) }
     ensures agrees { worked.entry.seen.value ≡ so_far.entry.seen.value }
-    ensures parts { (result.first ≡ so_far.entry.first) × (result.others.items ≡ so_far.entry.others.items ++ worked.entry.part ∷ []) }
-    ensures room { vec_capacity result.others ≡ vec_capacity so_far.entry.others }
+    ensures parts { result.parts.items ≡ so_far.entry.parts.items ++ worked.entry.part ∷ [] }
+    ensures room { vec_capacity result.parts ≡ vec_capacity so_far.entry.parts }
 {
-    let Ended {
-        first,
-        mut others,
-        seen,
-    } = so_far;
+    let Ended { mut parts, seen } = so_far;
     let Worked { part, seen: theirs } = worked;
     seen.agrees(&theirs);
-    others.push_reserved(part);
-    Ended {
-        first,
-        others,
-        seen,
-    }
+    parts.push_reserved(part);
+    Ended { parts, seen }
 }
 
-/// Starts a thread for each other part, and works at the first one in this. If a thread is refused the gate is shut, and
+/// Starts a thread for each part but the first, which is worked at in this one. If a thread is refused the gate is shut, and
 /// its part, which waits there too, is handed back as it was.
 fn run<'s, 'e, W: Drop + Send + 's, E: Works<W> + Sync + 's, R: Threads + Wait + Sync>(
     rt: &'s R,
     scope: &Scope<'s, &'e ()>,
     how: &'s E,
     gate: &'s Gate,
-    first: W,
-    mut others: Vec<W>,
+    mut parts: Vec<W>,
 ) -> Ended<'s, W>
     ensures of { result.seen.of ≡ gate.now.id }
-    ensures did { Each (Did (E.works how.now) result.seen.value) (first ∷ others.items) (result.first ∷ result.others.items) }
-    ensures room { (vec_len result.others ≡ vec_len others) × (vec_capacity others ≤ vec_capacity result.others) }
+    ensures did { Each (Did (E.works how.now) result.seen.value) parts.items result.parts.items }
+    ensures room { (vec_len result.parts ≡ vec_len parts) × (vec_capacity parts ≤ vec_capacity result.parts) }
 {
-    let Some(part) = others.pop() else {
+    let Some(part) = parts.pop() else {
         decide(rt, gate, true);
-        let Worked { part: first, seen } = work_at(rt, how, gate, first);
         return Ended {
-            first,
-            others,
-            seen,
+            parts,
+            seen: wait_at(rt, gate),
         };
     };
+    if parts.is_empty() {
+        let so_far = run(rt, scope, how, gate, parts);
+        return joined(so_far, work_at(rt, how, gate, part));
+    }
     let keeps = Keeps {
         how: Snapshot::of(how),
         gate: Snapshot::of(gate),
@@ -102,16 +92,14 @@ fn run<'s, 'e, W: Drop + Send + 's, E: Works<W> + Sync + 's, R: Threads + Wait +
         { work_at(rt, how, gate, part) },
     ) {
         Ok(child) => {
-            let so_far = run(rt, scope, how, gate, first, others);
-            let worked = child.join(rt);
-            joined(so_far, worked)
+            let so_far = run(rt, scope, how, gate, parts);
+            joined(so_far, child.join(rt))
         }
         Err(refused) => {
             decide(rt, gate, false);
-            let so_far = run(rt, scope, how, gate, first, others);
+            let so_far = run(rt, scope, how, gate, parts);
             let work = refused.value;
-            let worked = work();
-            joined(so_far, worked)
+            joined(so_far, work())
         }
     }
 }
@@ -121,30 +109,33 @@ fn run_scoped<W: Drop + Send, E: Works<W> + Sync, R: Threads + Wait + Sync>(
     rt: &R,
     how: &E,
     gate: &Gate,
-    first: W,
-    others: Vec<W>,
+    parts: Vec<W>,
 ) -> Abreast<W>
-    ensures did { Each (Did (E.works how.now) result.has_worked) (first ∷ others.items) (result.first ∷ result.others.items) }
+    ensures did { Each (Did (E.works how.now) result.has_worked) parts.items result.parts.items }
 {
     thread::scope(
         thread::scope_env(),
         rt,
         move |scope| -> Abreast<W>
-            ensures did { Each (Did (E.works how.entry.now) result.has_worked) (first ∷ others.items) (result.first ∷ result.others.items) }
+            ensures did { Each (Did (E.works how.entry.now) result.has_worked) parts.items result.parts.items }
         {
-            let Ended {
-                first,
-                others,
-                seen,
-            } = run(rt, scope, how, gate, first, others);
+            let Ended { parts, seen } = run(rt, scope, how, gate, parts);
             let has_worked = *gate.value(&seen);
-            Abreast {
-                first,
-                others,
-                has_worked,
-            }
+            Abreast { parts, has_worked }
         },
     )
+}
+
+/// Works at one part, in the caller's thread.
+fn work_alone<W: Drop, E: Works<W>>(how: &E, part: W, mut parts: Vec<W>) -> Abreast<W>
+    requires { (vec_len parts ≡ 0) × (0 < vec_capacity parts) }
+    ensures { IsTrue result.has_worked × Each (E.works how.now) (part ∷ []) result.parts.items }
+{
+    parts.push_reserved(how.work(part));
+    Abreast {
+        parts,
+        has_worked: true,
+    }
 }
 
 /// Works at each part at the same time: at the first in the caller's thread, at each other in a thread of its own. None is
@@ -152,12 +143,17 @@ fn run_scoped<W: Drop + Send, E: Works<W> + Sync, R: Threads + Wait + Sync>(
 pub fn work_abreast<W: Drop + Send, E: Works<W> + Sync, R: Threads + Wait + Sync>(
     rt: &R,
     how: &E,
-    first: W,
-    others: Vec<W>,
+    mut parts: Vec<W>,
 ) -> Abreast<W>
-    ensures all { IsTrue result.has_worked → Each (E.works how.now) (first ∷ others.items) (result.first ∷ result.others.items) }
-    ensures none { IsFalse result.has_worked → (result.first ≡ first) × (result.others.items ≡ others.items) }
+    ensures all { IsTrue result.has_worked → Each (E.works how.now) parts.items result.parts.items }
+    ensures none { IsFalse result.has_worked → result.parts.items ≡ parts.items }
+    ensures one { vec_len parts ≡ 1 → IsTrue result.has_worked }
 {
+    if parts.len() == 1 {
+        if let Some(part) = parts.pop() {
+            return work_alone(how, part, parts);
+        }
+    }
     let gate = OnceLock::new();
-    run_scoped(rt, how, &gate, first, others)
+    run_scoped(rt, how, &gate, parts)
 }

@@ -21,7 +21,7 @@ pub(crate) fn decide<R: Wait>(rt: &R, gate: &Gate, may: bool) {
 }
 
 /// Waits until the gate has been opened or shut.
-fn wait_at<'s, R: Wait>(rt: &R, gate: &'s Gate) -> OnceToken<'s, bool>
+pub(crate) fn wait_at<'s, R: Wait>(rt: &R, gate: &'s Gate) -> OnceToken<'s, bool>
     ensures { result.of ≡ gate.now.id }
 {
     for _ in rt.forever() {
