@@ -166,17 +166,24 @@ impl<R: Clock> SocketReactor<'_, R> {
         self.why
     }
 
-    /// Ends it: what is still held of connections that have ended is written, and they are closed, as long as their clients take
-    /// something. The seats of a server that goes on are closed at once.
+    /// Ends it, as `finish` does.
     pub fn end(self) {
         let mut reactor = self;
-        reactor.queue.leave_seats();
+        reactor.finish();
+    }
+
+    /// Writes what is still held of connections that have ended, and closes them, as long as their clients take something. The
+    /// seats of a server that goes on are closed at once.
+    pub fn finish(&mut self)
+        ensures { (self.new.told ≡ self.old.told) × (self.new.why ≡ self.old.why) }
+    {
+        self.queue.leave_seats();
         for _wait in 0..LAST_WAITS {
-            if reactor.queue.is_empty() {
+            if self.queue.is_empty() {
                 return;
             }
-            reactor.gather();
-            let _none = reactor.queue.next();
+            self.gather();
+            let _none = self.queue.next();
         }
     }
 
