@@ -23,7 +23,9 @@ use asgi_threads::{Abreast, Works, work_abreast};
 use asgi_types::{Limits, State};
 use asgi_ws::{Line, Wired};
 use futures::task::{Context, Doorbell, Solo};
+use std::alloc::AllocGlobal;
 use std::io;
+use std::random::RandomSource;
 use std::time::Clock;
 
 /// What a thread serves: where its connections come from, what gets their reports, and how it ended, once it has.
@@ -46,9 +48,16 @@ struct Serving<'a, H, A, E, G> {
     engine: &'a G,
 }
 
-impl<'a, 'r, H: Host, R: Clock, A, E: OnEnd, G: TableEngine<A>, K: Teller<Report>> Works<
-    Post<'r, R, K>,
-> for Serving<'a, H, A, E, G> {
+impl<
+    'a,
+    'r,
+    H: AllocGlobal + RandomSource,
+    R: Clock,
+    A,
+    E: OnEnd,
+    G: TableEngine<A>,
+    K: Teller<Report>,
+> Works<Post<'r, R, K>> for Serving<'a, H, A, E, G> {
     ghost use Rattle.nomtsage.specs.Seats.{ServesSeats};
     ghost use Rattle.nomtsage.specs.Serving.{around};
 
@@ -90,7 +99,14 @@ impl<'a, 'r, H: Host, R: Clock, A, E: OnEnd, G: TableEngine<A>, K: Teller<Report
 }
 
 /// Serves the connections of one thread.
-fn serve_table<H: Host, R: Clock, A, E: OnEnd, G: TableEngine<A>, K: Teller<Report>>(
+fn serve_table<
+    H: AllocGlobal + RandomSource,
+    R: Clock,
+    A,
+    E: OnEnd,
+    G: TableEngine<A>,
+    K: Teller<Report>,
+>(
     rt: &H,
     limits: &Limits,
     seats: usize,
