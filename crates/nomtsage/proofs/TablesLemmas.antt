@@ -91,17 +91,15 @@ pub served_together : {P T : Type 0} (works : P → P → Type 0) (old new : Lis
 served_together works old new each serves part how_of so how same =
     subst (λ h. EachServes serves (map part old) (map part new) h) (sym same) (each_served works old new each serves part how_of so)
 
--- each is this, so they are as many of this
-pub all_same : {P T : Type 0} (part : P → T) (this : T) (Q : P → Type 0) → ((p : P) → Q p → part p ≡ this) → (xs : List P) → All Q xs
-    → map part xs ≡ replicate (length xs) this
-all_same part this Q so [] all = refl
-all_same part this Q so (x ∷ xs) all = ap₂ (λ y ys. y ∷ ys) (so x (All-head Q x xs all)) (all_same part this Q so xs (All-tail Q x xs all))
-
--- a thread that was asked for nothing
-pub same_thread : {Q K : Type 0} (asked : List Q) (teller set : K) (why : Option Error) → (asked ≡ []) × (why ≡ None) × (teller ≡ set) → thread asked teller why ≡ thread [] set None
-same_thread {Q} {K} asked teller set why (none, well, same) =
-    ap (λ (a : List Q). thread a teller why) none
-    ∙ (ap (λ (w : Option Error). thread [] teller w) well ∙ ap (λ (k : K). thread [] k None) same)
+-- what no thread has been asked for anything, and each has the teller that was set
+pub all_fresh : {P Q K : Type 0} (asked : P → List Q) (teller : P → K) (why : P → Option Error) (set : K) (xs : List P)
+    → All (λ p. (asked p ≡ []) × (why p ≡ None) × (teller p ≡ set)) xs → map (λ p. thread (asked p) (teller p) (why p)) xs ≡ replicate (length xs) (thread [] set None)
+all_fresh asked teller why set [] all = refl
+all_fresh {P} {Q} {K} asked teller why set (x ∷ xs) all =
+    let this = All-head (λ (p : P). (asked p ≡ []) × (why p ≡ None) × (teller p ≡ set)) x xs all in
+    let others = All-tail (λ (p : P). (asked p ≡ []) × (why p ≡ None) × (teller p ≡ set)) x xs all in
+    let same : thread (asked x) (teller x) (why x) ≡ thread [] set None = rw (this.0, this.1, this.2) refl in
+    ap₂ (λ (y : Thread Q K) (ys : List (Thread Q K)). y ∷ ys) same (all_fresh asked teller why set xs others)
 
 -- what a server in several threads did that had been asked for nothing before
 pub ran_tables : {L K : Type 0} (line_state : L → LineState) (tells : K → K → ℕ → Report → Type 0) (answers : Promise) (limits seconds : Limits) (count : ℕ)
