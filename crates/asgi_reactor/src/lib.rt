@@ -10,6 +10,7 @@ mod peers;
 mod place;
 mod polled;
 mod queue;
+mod quota;
 mod reactor;
 mod thread;
 
@@ -18,5 +19,6 @@ pub use held::{Held, Took};
 pub use numbers::Numbers;
 pub use pace::Pace;
 pub use polled::Polled;
+pub use quota::Quota;
 pub use reactor::{PolledLine, SocketReactor};
 pub use thread::serve_in_thread;

@@ -8,6 +8,7 @@ use crate::peers::{own_peer, peer_at};
 pub use crate::place::PolledLine;
 use crate::polled::Polled;
 use crate::queue::Queue;
+use crate::quota::Quota;
 use asgi_io::History;
 use asgi_many::{Newcomer, Next, Reactor, Ready, Rest};
 use asgi_types::Peer;
@@ -17,6 +18,7 @@ use mio::{Events, Interest, Poll, Token};
 use std::alloc::Global;
 use std::io;
 use std::net::{Net, SocketAddr};
+use std::os::fd::AsFd;
 use std::sync::atomic::{AtomicBool, Ordering};
 use std::time::{Clock, Duration, Instant};
 
@@ -54,6 +56,8 @@ pub struct SocketReactor<'a, R: Clock> {
     queue: Queue,
     // How many more connections will be accepted.
     left: u64,
+    // How many more all will accept that share the socket, if it is shared.
+    quota: Option<&'a Quota>,
     // Looked at before each accept.
     flag: Option<&'a AtomicBool>,
     // One may have arrived.
@@ -83,8 +87,35 @@ impl<'a, R: Net + Clock> SocketReactor<'a, R> {
         ensures nothing { IfOk result (λ r. (r.told.items ≡ []) × (r.why ≡ None)) }
         ensures count { IfOk result (λ r. r.left ≡ numbers.now.count) }
     {
+        let listener = TcpListener::bind(rt, address)?;
+        SocketReactor::of(rt, alloc, listener, numbers, flag, None)
+    }
+
+    /// One more of the same socket, for another thread: each connection is accepted by one of them. It looks at the same flag,
+    /// shares the same quota, and has a count of its own. What the system refused, or want of memory, is its error.
+    pub fn beside(&self, numbers: &Numbers) -> io::Result<Self>
+        ensures nothing { IfOk result (λ r. (r.told.items ≡ []) × (r.why ≡ None)) }
+        ensures count { IfOk result (λ r. r.left ≡ numbers.now.count) }
+    {
+        let listener = TcpListener::from(self.listener.as_fd().try_clone_to_owned()?);
+        SocketReactor::of(
+            self.clock, self.alloc, listener, numbers, self.flag, self.quota,
+        )
+    }
+
+    /// One of this socket, which is listened on and does not block.
+    fn of(
+        rt: &'a R,
+        alloc: Global,
+        mut listener: TcpListener,
+        numbers: &Numbers,
+        flag: Option<&'a AtomicBool>,
+        quota: Option<&'a Quota>,
+    ) -> io::Result<Self>
+        ensures nothing { IfOk result (λ r. (r.told.items ≡ []) × (r.why ≡ None)) }
+        ensures count { IfOk result (λ r. r.left ≡ numbers.now.count) }
+    {
         let poll = Poll::new(rt)?;
-        let mut listener = TcpListener::bind(rt, address)?;
         poll.registry()
             .register(&mut listener, Token(ARRIVALS), Interest::READABLE)?;
         let own = own_peer(alloc, listener.local_addr());
@@ -97,6 +128,7 @@ impl<'a, R: Net + Clock> SocketReactor<'a, R> {
             own,
             queue: Queue::new(alloc, numbers)?,
             left: numbers.count,
+            quota,
             flag,
             arrived: true,
             lost: 0,
@@ -107,6 +139,17 @@ impl<'a, R: Net + Clock> SocketReactor<'a, R> {
             why: None,
             told: History::new(),
         })
+    }
+}
+
+impl<'a, R: Clock> SocketReactor<'a, R> {
+    /// The same, which accepts no more connections than all that share this quota are to accept together.
+    pub fn within(self, quota: &'a Quota) -> Self
+        ensures { let was = self.entry in (result.told ≡ was.told) × (result.left ≡ was.left) × (result.why ≡ was.why) }
+    {
+        let mut reactor = self;
+        reactor.quota = Some(quota);
+        reactor
     }
 }
 
@@ -123,17 +166,24 @@ impl<R: Clock> SocketReactor<'_, R> {
         self.why
     }
 
-    /// Ends it: what is still held of connections that have ended is written, and they are closed, as long as their clients take
-    /// something. The seats of a server that goes on are closed at once.
+    /// Ends it, as `finish` does.
     pub fn end(self) {
         let mut reactor = self;
-        reactor.queue.leave_seats();
+        reactor.finish();
+    }
+
+    /// Writes what is still held of connections that have ended, and closes them, as long as their clients take something. The
+    /// seats of a server that goes on are closed at once.
+    pub fn finish(&mut self)
+        ensures { (self.new.told ≡ self.old.told) × (self.new.why ≡ self.old.why) }
+    {
+        self.queue.leave_seats();
         for _wait in 0..LAST_WAITS {
-            if reactor.queue.is_empty() {
+            if self.queue.is_empty() {
                 return;
             }
-            reactor.gather();
-            let _none = reactor.queue.next();
+            self.gather();
+            let _none = self.queue.next();
         }
     }
 
@@ -142,7 +192,7 @@ impl<R: Clock> SocketReactor<'_, R> {
         ensures left { IsFalse result → ¬ (self.now.left ≡ 0) }
         ensures why { IsFalse result → self.now.why ≡ None }
     {
-        self.left == 0 || self.why.is_some() || is_set(self.flag)
+        self.left == 0 || self.why.is_some() || is_set(self.flag) || is_spent(self.quota)
     }
 
     /// The next connection, for this seat.
@@ -157,6 +207,40 @@ impl<R: Clock> SocketReactor<'_, R> {
         if self.queue.make_room().is_err() {
             return Next::NoneNow;
         }
+        if let Some(quota) = self.quota {
+            return self.accept_within(quota, at);
+        }
+        self.accept_one(at)
+    }
+
+    /// The same if it shares this quota. While the others have taken all of it, none is asked for.
+    fn accept_within(&mut self, quota: &Quota, at: usize) -> Next<PolledLine>
+        requires left { ¬ (self.old.left ≡ 0) }
+        requires why { self.old.why ≡ None }
+        ensures told { self.new.told ≡ self.old.told }
+        ensures some { IfArrived result (λ _. (self.old.left ≡ self.new.left + 1) × (self.new.why ≡ None)) }
+        ensures none { IsNone result → self.new.left ≡ self.old.left }
+    {
+        if !quota.take() {
+            return Next::NoneNow;
+        }
+        let next = self.accept_one(at);
+        match &next {
+            Next::Arrived(_newcomer) => quota.spend(),
+            Next::NoneNow => quota.give_back(),
+            Next::NoneEver => quota.give_back(),
+        }
+        next
+    }
+
+    /// Asks the system for the next connection.
+    fn accept_one(&mut self, at: usize) -> Next<PolledLine>
+        requires left { ¬ (self.old.left ≡ 0) }
+        requires why { self.old.why ≡ None }
+        ensures told { self.new.told ≡ self.old.told }
+        ensures some { IfArrived result (λ _. (self.old.left ≡ self.new.left + 1) × (self.new.why ≡ None)) }
+        ensures none { IsNone result → self.new.left ≡ self.old.left }
+    {
         match self.listener.accept() {
             Ok((stream, from)) => match self.take(stream, from, at) {
                 Some(newcomer) => {
@@ -338,6 +422,14 @@ fn time_of<R: Clock>(clock: &R) -> Option<Instant> {
     match Instant::now(clock) {
         Ok(now) => Some(now),
         Err(_) => None,
+    }
+}
+
+/// Whether there is a quota, and no connection of it is left.
+fn is_spent(quota: Option<&Quota>) -> bool {
+    match quota {
+        Some(quota) => quota.is_over(),
+        None => false,
     }
 }
 

@@ -2,3 +2,4 @@ pub mod ServingLemmas
 pub mod LivesLemmas
 pub mod RunLemmas
 pub mod SeatsLemmas
+pub mod TablesLemmas

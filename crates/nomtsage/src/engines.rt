@@ -19,6 +19,13 @@ pub struct InSeats {
     pub(crate) seats: usize,
 }
 
+/// In several threads, in each of which so many connections at a time are taken up turn by turn.
+#[derive(Drop)]
+pub struct InTables<G> {
+    pub(crate) seats: usize,
+    pub(crate) engine: G,
+}
+
 /// That a server has workers, each of which serves one connection at a time.
 pub trait HasWorkers {}
 

@@ -63,15 +63,7 @@ impl<'a, K: Teller<Report> + Drop, E: OnEnd + Drop> Server<'a, K, E, InSeats> {
             workers: _none,
             engines,
         } = self;
-        let numbers = Numbers {
-            seats: engines.seats,
-            count,
-            tick: Duration::from_secs(TICK),
-            patience: PATIENCE,
-            least: LEAST,
-            slow: SLOW,
-            leave: LEAVE,
-        };
+        let numbers = numbers_of(engines.seats, count);
         let reactor = match SocketReactor::open(rt, rt.alloc(), address, &numbers, flag_of(stop)) {
             Ok(reactor) => reactor,
             Err(e) => {
@@ -81,7 +73,10 @@ impl<'a, K: Teller<Report> + Drop, E: OnEnd + Drop> Server<'a, K, E, InSeats> {
                 });
             }
         };
-        let tells = Tells { on_report, on_end };
+        let tells = Tells {
+            on_report,
+            on_end: &on_end,
+        };
         listened_in_seats(rt, &limits, numbers.seats, app, reactor, tells)
     }
 
@@ -103,12 +98,25 @@ impl<'a, K: Teller<Report> + Drop, E: OnEnd + Drop> Server<'a, K, E, InSeats> {
     }
 }
 
+/// The numbers of a reactor with so many seats, for so many connections.
+pub(crate) fn numbers_of(seats: usize, count: u64) -> Numbers {
+    Numbers {
+        seats,
+        count,
+        tick: Duration::from_secs(TICK),
+        patience: PATIENCE,
+        least: LEAST,
+        slow: SLOW,
+        leave: LEAVE,
+    }
+}
+
 /// Serves the connections of a socket that is open, and that was asked for none yet.
 fn listened_in_seats<
     'a,
     H: Net + Clock + Log + Host,
     A: Application,
-    E: OnEnd + Drop,
+    E: OnEnd,
     K: Teller<Report> + Drop,
 >(
     rt: &'a H,
@@ -116,10 +124,10 @@ fn listened_in_seats<
     seats: usize,
     app: &A,
     mut reactor: SocketReactor<'a, H>,
-    mut tells: Tells<K, E>,
+    mut tells: Tells<'_, K, E>,
 ) -> Result<(), ServeError>
     requires { reactor.told.items ≡ [] }
-    ensures { RanSeats ⟦<Wired<Polled> as Line>⟧.state K.tells (A.answers app.now) limits.now tells.on_report result }
+    ensures { RanSeats ⟦<Wired<Polled> as Line>⟧.state K.tells (A.answers app.now) limits.now tells.entry.on_report result }
 {
     say_where(rt, &reactor);
     let ending = serve_in_seats(rt, limits, seats, app, &mut reactor, &mut tells);
@@ -129,7 +137,7 @@ fn listened_in_seats<
 }
 
 /// Writes at which address the socket listens to the log.
-fn say_where<H: Net + Clock + Log>(rt: &H, reactor: &SocketReactor<'_, H>) {
+pub(crate) fn say_where<H: Net + Clock + Log>(rt: &H, reactor: &SocketReactor<'_, H>) {
     let Ok(address) = reactor.address() else {
         return;
     };

@@ -58,7 +58,7 @@ pub(crate) fn serve_in_seats<H: Host, R: Clock, A: Application, E: OnEnd, K: Tel
     seats: usize,
     app: &A,
     reactor: &mut SocketReactor<'_, R>,
-    tells: &mut Tells<K, E>,
+    tells: &mut Tells<'_, K, E>,
 ) -> Ending
     ensures { (seconds : Limits) × InSeconds limits.now seconds
         × LivesOn (ServesSeats ⟦<Wired<Polled> as Line>⟧.state K.tells (A.answers app.now) seconds reactor.new.why) (A.answers app.now) limits.now
@@ -98,7 +98,7 @@ fn live<
     reactor: &mut SocketReactor<'_, R>,
     cx: &mut Context<'_>,
     pause: &mut P,
-    tells: &mut Tells<K, E>,
+    tells: &mut Tells<'_, K, E>,
 ) -> Ending
     ensures { LivesOrNot (ServesSeats ⟦<Wired<Polled> as Line>⟧.state K.tells (A.answers app.now) seconds.now reactor.new.why) (A.answers app.now) limits.now
         (around reactor.old.told.items tells.old.on_report) (around reactor.new.told.items tells.new.on_report)
@@ -129,7 +129,7 @@ fn follow<
     reactor: &mut SocketReactor<'_, R>,
     cx: &mut Context<'_>,
     pause: &mut P,
-    tells: &mut Tells<K, E>,
+    tells: &mut Tells<'_, K, E>,
 ) -> Ending
     ensures { FollowsStart (ServesSeats ⟦<Wired<Polled> as Line>⟧.state K.tells (A.answers app.now) seconds.now reactor.new.why) limits.now answer
         (around reactor.old.told.items tells.old.on_report) (around reactor.new.told.items tells.new.on_report)
@@ -159,7 +159,7 @@ fn serve<H: Host, R: Clock, A: Application, E: OnEnd, K: Teller<Report>>(
     state: &State,
     app: &A,
     reactor: &mut SocketReactor<'_, R>,
-    tells: &mut Tells<K, E>,
+    tells: &mut Tells<'_, K, E>,
 ) -> Served
     ensures { ServesSeats ⟦<Wired<Polled> as Line>⟧.state K.tells (A.answers app.now) limits.now reactor.new.why state.now
         (around reactor.old.told.items tells.old.on_report) (around reactor.new.told.items tells.new.on_report) result }
@@ -171,7 +171,7 @@ fn serve<H: Host, R: Clock, A: Application, E: OnEnd, K: Teller<Report>>(
 }
 
 /// How serving ended, by how the seats did, and the system's error if no connection could be accepted any more.
-fn served_in(ended: Ended, why: Option<io::Error>) -> Served
+pub(crate) fn served_in(ended: Ended, why: Option<io::Error>) -> Served
     ensures { result ≡ served_in ended why }
 {
     match ended {

@@ -8,7 +8,7 @@ use log::{Log, info};
 use std::sync::atomic::{AtomicU64, Ordering};
 
 /// Gets reports, and tells nobody.
-#[derive(Drop)]
+#[derive(Clone, Copy, Debug)]
 pub struct Quiet;
 
 impl Teller<Report> for Quiet {
@@ -19,12 +19,12 @@ impl Teller<Report> for Quiet {
 
 /// Tells the report of a connection, and then what is to be called as it ends.
 #[derive(Drop)]
-pub(crate) struct Tells<K, E> {
+pub(crate) struct Tells<'a, K, E> {
     pub(crate) on_report: K,
-    pub(crate) on_end: E,
+    pub(crate) on_end: &'a E,
 }
 
-impl<K: Teller<Report>, E: OnEnd> Teller<Departure> for Tells<K, E> {
+impl<K: Teller<Report>, E: OnEnd> Teller<Departure> for Tells<'_, K, E> {
     ghost tells = { λ was is number departure. K.tells was.on_report is.on_report number departure.report };
 
     fn tell(&mut self, number: u64, departure: &Departure) {

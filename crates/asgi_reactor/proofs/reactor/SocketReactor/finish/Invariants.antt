@@ -1,0 +1,8 @@
+use Rattle.std.proofs.Common.{◌≡◌}
+use Rattle.asgi_reactor.proofs.reactor.SocketReactor.finish.Given as goal
+
+abbrev pub invariant-loop-wait : goal.invariant-loop-wait
+invariant-loop-wait g l = record {
+  told : l.self.told ≡ l.fn.self.told;
+  why : l.self.why ≡ l.fn.self.why;
+}

@@ -1,0 +1,202 @@
+//! A server of an address whose connections are in the seats of several threads: the call that serves.
+ghost use Rattle.std.specs.Prelude.{◌≡◌, ◌+◌, [], None, All, IfOk, IsOk, map, replicate, vec_len};
+ghost use Rattle.std.specs.Process.{exit_status};
+ghost use Rattle.nomtsage.specs.Running.{IsNumberBy, settings};
+ghost use Rattle.nomtsage.specs.Tables.{RanTables, RunsTables, RunsTablesTo, thread};
+
+use crate::ending::Served;
+use crate::engines::InTables;
+use crate::fault::{ListenFault, ServeError};
+use crate::returning::result_of;
+use crate::seated::{numbers_of, say_where};
+use crate::server::{Server, error_of, failed, workers_of};
+use crate::stop::flag_of;
+use crate::table_engine::TableEngineOf;
+use crate::tables::{Post, serve_in_tables, why_of};
+use asgi_apps::Application;
+use asgi_conn::{Host, Report};
+use asgi_reactor::{Numbers, Polled, Quota, SocketReactor};
+use asgi_server::{OnEnd, Teller, Workers};
+use asgi_types::Limits;
+use asgi_ws::{Line, Wired};
+use log::Log;
+use std::alloc::Global;
+use std::io;
+use std::net::Net;
+use std::process::ExitCode;
+use std::time::Clock;
+
+impl<'a, K: Teller<Report> + Copy + Drop + Send, E: OnEnd + Drop + Sync, G: Drop + Sync> Server<
+    'a,
+    K,
+    E,
+    InTables<G>,
+> {
+    /// Listens, starts the application, serves each connection in one of the threads, and stops the application once there are no
+    /// more: after the set number of connections, a pulled `Stop`, or an error. A line of the log has the address.
+    ///
+    /// The error names what could not be had or did not end well. If the address can't be listened on the application is
+    /// not started; if the application does not start, or a thread is refused, no connection is accepted. A thread whose listener
+    /// failed ends, and the others go on until theirs does.
+    pub fn run<'r, H: Net + Clock + Log + Host + Sync, A: Application + Sync>(
+        self,
+        rt: &'r H,
+        app: &A,
+    ) -> Result<(), ServeError>
+    where
+        'a: 'r,
+        G: TableEngineOf<A>,
+        ensures { RunsTables ⟦<Wired<Polled> as Line>⟧.state K.tells (A.answers app.now)
+            (settings self.entry.address self.entry.workers self.entry.limits self.entry.on_report) result }
+    {
+        let workers = match workers_of(rt, self.workers) {
+            Ok(workers) => workers,
+            Err(count) => return Err(ServeError::BadWorkers(count)),
+        };
+        self.run_by(rt, app, workers)
+    }
+
+    /// The same in this many threads.
+    fn run_by<'r, H: Net + Clock + Log + Host + Sync, A: Application + Sync>(
+        self,
+        rt: &'r H,
+        app: &A,
+        workers: Workers,
+    ) -> Result<(), ServeError>
+    where
+        'a: 'r,
+        G: TableEngineOf<A>,
+        requires { IsNumberBy self.workers workers.count }
+        ensures { RunsTables ⟦<Wired<Polled> as Line>⟧.state K.tells (A.answers app.now)
+            (settings self.entry.address self.entry.workers self.entry.limits self.entry.on_report) result }
+    {
+        let Server {
+            address,
+            limits,
+            count,
+            stop,
+            on_report,
+            on_end,
+            workers: _asked,
+            engines,
+        } = self;
+        let numbers = numbers_of(engines.seats, count);
+        let first = match SocketReactor::open(rt, rt.alloc(), address, &numbers, flag_of(stop)) {
+            Ok(first) => first,
+            Err(e) => {
+                return Err(ServeError::CannotListen {
+                    address,
+                    why: ListenFault(e),
+                });
+            }
+        };
+        say_where(rt, &first);
+        let quota = Quota::new(count);
+        let posts = match posts_of(
+            rt.alloc(),
+            first.within(&quota),
+            &numbers,
+            workers,
+            on_report,
+        ) {
+            Ok(posts) => posts,
+            Err(e) => {
+                return Err(ServeError::CannotListen {
+                    address,
+                    why: ListenFault(e),
+                });
+            }
+        };
+        let engine = &engines.engine;
+        listened_in_tables(
+            rt, &limits, &numbers, app, &on_end, engine, posts, workers, on_report,
+        )
+    }
+
+    /// The same for a `main`: the error is written to the log, and the exit status is by it (`ServeError::status`).
+    pub fn serve<'r, H: Net + Clock + Log + Host + Sync, A: Application + Sync>(
+        self,
+        rt: &'r H,
+        app: &A,
+    ) -> ExitCode
+    where
+        'a: 'r,
+        G: TableEngineOf<A>,
+        ensures { RunsTablesTo ⟦<Wired<Polled> as Line>⟧.state K.tells (A.answers app.now)
+            (settings self.entry.address self.entry.workers self.entry.limits self.entry.on_report) (exit_status result) }
+    {
+        match self.run(rt, app) {
+            Ok(()) => ExitCode::from(0),
+            Err(e) => failed(rt, e),
+        }
+    }
+}
+
+/// What each thread serves: this reactor, and one beside it for each other thread, with a copy of the teller each.
+fn posts_of<'r, H: Net + Clock, K: Copy + Drop>(
+    alloc: Global,
+    first: SocketReactor<'r, H>,
+    numbers: &Numbers,
+    threads: Workers,
+    on_report: K,
+) -> io::Result<Vec<Post<'r, H, K>>>
+    requires { (first.told.items ≡ []) × (first.why ≡ None) }
+    ensures many { IfOk result (λ posts. vec_len posts ≡ threads.count) }
+    ensures fresh { IfOk result (λ posts. All (λ p. (p.reactor.told.items ≡ []) × (p.reactor.why ≡ None) × (p.on_report ≡ on_report)) posts.items) }
+{
+    let mut posts = Vec::new(alloc);
+    for _other in 1..threads.count() {
+        let reactor = first.beside(numbers)?;
+        put(&mut posts, reactor, on_report)?;
+    }
+    put(&mut posts, first, on_report)?;
+    Ok(posts)
+}
+
+/// Adds what one more thread serves.
+fn put<'r, H: Net + Clock, K: Copy + Drop>(
+    posts: &mut Vec<Post<'r, H, K>>,
+    reactor: SocketReactor<'r, H>,
+    on_report: K,
+) -> io::Result<()>
+    requires one { (reactor.told.items ≡ []) × (reactor.why ≡ None) }
+    requires fresh { All (λ p. (p.reactor.told.items ≡ []) × (p.reactor.why ≡ None) × (p.on_report ≡ on_report)) posts.old.items }
+    ensures many { IsOk result → vec_len posts.new ≡ vec_len posts.old + 1 }
+    ensures fresh { IsOk result → All (λ p. (p.reactor.told.items ≡ []) × (p.reactor.why ≡ None) × (p.on_report ≡ on_report)) posts.new.items }
+{
+    posts.reserve(1)?;
+    posts.push_reserved(Post {
+        reactor,
+        on_report,
+        how: Served::NoThread,
+    });
+    Ok(())
+}
+
+/// Serves the connections of a socket that is open, and that was asked for none yet.
+fn listened_in_tables<
+    'r,
+    H: Net + Clock + Log + Host + Sync,
+    A: Application + Sync,
+    E: OnEnd + Sync,
+    G: TableEngineOf<A> + Sync,
+    K: Teller<Report> + Copy + Drop + Send,
+>(
+    rt: &H,
+    limits: &Limits,
+    numbers: &Numbers,
+    app: &A,
+    on_end: &E,
+    engine: &G,
+    posts: Vec<Post<'r, H, K>>,
+    threads: Workers,
+    on_report: K,
+) -> Result<(), ServeError>
+    requires many { vec_len posts ≡ threads.count }
+    requires fresh { All (λ p. (p.reactor.told.items ≡ []) × (p.reactor.why ≡ None) × (p.on_report ≡ on_report)) posts.items }
+    ensures { RanTables ⟦<Wired<Polled> as Line>⟧.state K.tells (A.answers app.now) limits.now threads.count on_report result }
+{
+    let (ending, posts) = serve_in_tables(rt, limits, numbers.seats, app, on_end, engine, posts);
+    let why = error_of(why_of(posts.as_slice()));
+    result_of(ending, why)
+}
