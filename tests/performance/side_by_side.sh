@@ -137,13 +137,17 @@ instructions() {
   line="$line $(echo "$count" | sed ':a; s/\B[0-9]\{3\}\>/,&/; ta') |"
 }
 
-# Finds the reads and writes of one request.
+# Finds the reads and writes of one request: a run with many less one with few.
 calls() {
-  start "$1" "$2" strace -f -c -o "$folder/calls"
-  trips "$3" 19 >/dev/null
-  stop
-  line="$line $(awk '$4 ~ /^[0-9]+$/ { n[$NF] = $4 } END { printf "%.1f, %.1f", (n["read"] + n["recvfrom"] + n["recvmsg"] + n["readv"]) / 20,
-    (n["write"] + n["sendto"] + n["sendmsg"] + n["writev"]) / 20 }' "$folder/calls") |"
+  local few=20 many=60 count
+  for count in "$few" "$many"; do
+    start "$1" "$2" strace -f -c -o "$folder/calls"
+    trips "$3" "$count" >/dev/null
+    stop
+    awk '$4 ~ /^[0-9]+$/ { n[$NF] = $4 } END { print n["read"] + n["recvfrom"] + n["recvmsg"] + n["readv"], n["write"] + n["sendto"] + n["sendmsg"] + n["writev"] }' \
+      "$folder/calls" >"$folder/calls.$count"
+  done
+  line="$line $(paste "$folder/calls.$few" "$folder/calls.$many" | awk -v many=$((many - few)) '{ printf "%.1f, %.1f", ($3 - $1) / many, ($4 - $2) / many }') |"
 }
 
 memory_of() { awk -v name="$1:" '$1 == name { printf "%.1f", $2 / 1024 }' /proc/"$pid"/status; }
