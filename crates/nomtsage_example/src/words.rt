@@ -26,6 +26,8 @@ pub enum Served {
     Quiet { in_worker: bool },
     /// The application, by a server that logs its connections, which are in as many seats as there are to be workers.
     Seated(Seated),
+    /// The same in the seats of as many threads as there are to be workers.
+    Tabled(Seated),
 }
 
 /// The application that is to be served in seats.
@@ -70,6 +72,10 @@ fn served_named(name: &str) -> Option<Served> {
         "seatsends" => Some(Served::Seated(Seated::Ends)),
         "seatsnostart" => Some(Served::Seated(Seated::NoStart)),
         "seatsnostop" => Some(Served::Seated(Seated::NoStop)),
+        "tables" => Some(Served::Tabled(Seated::Hello)),
+        "tablesends" => Some(Served::Tabled(Seated::Ends)),
+        "tablesnostart" => Some(Served::Tabled(Seated::NoStart)),
+        "tablesnostop" => Some(Served::Tabled(Seated::NoStop)),
         _ => Some(Served::Logged(app_named(name)?)),
     }
 }
