@@ -184,6 +184,15 @@ class Library(unittest.TestCase):
                 with self.subTest(app=app, after=after):
                     self.ends("no thread for a worker", "pthread_create", errno.EAGAIN, app, after=after)
 
+    def test_a_thread_that_is_refused_to_one_of_several_tables_ends_the_server(self):
+        # One thread for each table but that of the caller. What those that were started were to serve is left.
+        for workers in (2, 4, 8):
+            for after in range(workers - 1):
+                with self.subTest(workers=workers, after=after):
+                    with servers.Own("tables", workers=workers, env={**os.environ, **failing("pthread_create", errno.EAGAIN, after=after)}) as own:
+                        lines, status = own.ended()
+                        self.assertEqual((lines[1:], status), (["no thread for a worker"], 5))
+
     def test_a_socket_that_accepts_nothing_ends_the_server(self):
         for name in (*LASTING, "EPROTO"):
             with self.subTest(error=name):

@@ -27,6 +27,7 @@ import tempfile
 import threading
 import time
 import unittest
+from concurrent.futures import ThreadPoolExecutor
 
 PROGRAM = ""
 TOP = os.path.dirname(os.path.dirname(os.path.realpath(__file__)))
@@ -260,6 +261,42 @@ class Library(unittest.TestCase):
             self.assertEqual(sorted(told[1:]), sorted(f"connection {number}: 1 requests, finished" for number in range(1, 65)))
             self.assertEqual(status, 0)
 
+    def test_many_clients_in_several_threads(self):
+        clients, each, threads = 25, 40, 4
+
+        def client(port):
+            return [self.get(port, b"/") for _ in range(each)]
+
+        with Own("tables", count=clients * each, workers=threads) as own:
+            port = own.port()
+            self.assertEqual(self.get(port, b"/"), b"hello\n")
+            self.assertEqual(len(os.listdir(f"/proc/{own.ran.pid}/task")), threads)
+            with ThreadPoolExecutor(clients + 1) as pool:
+                # What it writes to the log is read meanwhile, since a pipe holds little.
+                ended = pool.submit(own.ended)
+                answers = [pool.submit(client, port) for _ in range(clients - 1)]
+                self.assertEqual([it.result() for it in answers], [[b"hello\n"] * each] * (clients - 1))
+                self.assertEqual([self.get(port, b"/") for _ in range(each - 1)], [b"hello\n"] * (each - 1))
+                told, status = ended.result()
+            self.assertEqual(sorted(told[1:]), sorted(f"connection {number}: 1 requests, finished" for number in range(1, clients * each + 1)))
+            self.assertEqual(status, 0)
+
+    def test_clients_that_keep_their_connections_in_several_threads(self):
+        with Own("tables", count=64, workers=4) as own:
+            port = own.port()
+            lines = [socket.create_connection(("127.0.0.1", port), timeout=SECONDS) for _ in range(64)]
+            for _ in range(2):
+                for line in reversed(lines):
+                    line.sendall(GET)
+                    self.assertTrue(line.recv(1 << 16).endswith(b"hello\n\r\n0\r\n\r\n"))
+            # A server that has given as many connections as were set accepts no more, in none of its threads.
+            self.assertTrue(self.is_left(port))
+            for line in lines:
+                line.close()
+            told, status = own.ended()
+            self.assertEqual(sorted(told[1:]), sorted(f"connection {number}: 2 requests, finished" for number in range(1, 65)))
+            self.assertEqual(status, 0)
+
     def test_more_clients_than_seats_wait(self):
         with Own("seats", count=3, workers=1) as own:
             port = own.port()
@@ -311,12 +348,13 @@ class Library(unittest.TestCase):
         self.refused(f"cannot listen on 192.0.2.1:8000: the address is not one of this machine: {why}", 5, address="192.0.2.1:8000")
 
     def test_numbers_of_workers_that_are_none(self):
-        for workers in (0, 9):
-            with self.subTest(workers=workers):
-                self.refused(f"workers: {workers} is not a number from 1 to 8", 2, workers=workers)
+        for app in ("hello", "tables"):
+            for workers in (0, 9):
+                with self.subTest(app=app, workers=workers):
+                    self.refused(f"workers: {workers} is not a number from 1 to 8", 2, app, workers=workers)
 
     def test_a_connection_is_told_with_its_client(self):
-        for app in ("hello", "seats"):
+        for app in ("hello", "seats", "tables"):
             with self.subTest(app=app), Own(app) as own:
                 with socket.create_connection(("127.0.0.1", own.port()), timeout=SECONDS) as line:
                     client = line.getsockname()[1]
@@ -326,7 +364,7 @@ class Library(unittest.TestCase):
                 self.assertIn(f"connection 1: 127.0.0.1 port {client}, 1 requests, finished\n", errors)
 
     def test_a_start_that_fails(self):
-        for app in ("nostart", "seatsnostart"):
+        for app in ("nostart", "seatsnostart", "tablesnostart"):
             with self.subTest(app=app):
                 port = free_port()
                 self.refused("startup failed: no table", 3, app, has_begun=True, address=f"127.0.0.1:{port}")
@@ -390,7 +428,7 @@ class Library(unittest.TestCase):
                     self.assertGreater(last - answered, 0.7)
 
     def test_a_stop_that_fails(self):
-        for app in ("nostop", "seatsnostop"):
+        for app in ("nostop", "seatsnostop", "tablesnostop"):
             with self.subTest(app=app), Own(app) as own:
                 self.get(own.port(), b"/")
                 told, status = own.ended()
@@ -411,21 +449,22 @@ class Library(unittest.TestCase):
             self.assertEqual(status, 0)
 
     def test_a_stop_that_the_application_pulls_in_seats(self):
-        with Own("seatsends", count=1000) as own:
-            port = own.port()
-            # One between two requests is closed, one in the middle of a request is answered.
-            rests, asks = self.begun(port), self.begun(port)
-            asks.sendall(b"POST /last HTTP/1.1\r\nHost: a\r\nConnection: close\r\nContent-Length: 3\r\n\r\na")
-            began = time.monotonic()
-            self.assertEqual(self.get(port, b"/end"), b"/end")
-            self.assertEqual(read_all(rests), b"")
-            asks.sendall(b"bc")
-            self.assertIn(b"/last", read_all(asks))
-            told, status = own.ended()
-            self.assertLess(time.monotonic() - began, 20)
-            ends = sorted(line.partition(": ")[2] for line in told[1:])
-            self.assertEqual(ends, ["1 requests, finished", "1 requests, idle", "2 requests, finished"])
-            self.assertEqual(status, 0)
+        for app in ("seatsends", "tablesends"):
+            with self.subTest(app=app), Own(app, count=1000) as own:
+                port = own.port()
+                # One between two requests is closed, one in the middle of a request is answered.
+                rests, asks = self.begun(port), self.begun(port)
+                asks.sendall(b"POST /last HTTP/1.1\r\nHost: a\r\nConnection: close\r\nContent-Length: 3\r\n\r\na")
+                began = time.monotonic()
+                self.assertEqual(self.get(port, b"/end"), b"/end")
+                self.assertEqual(read_all(rests), b"")
+                asks.sendall(b"bc")
+                self.assertIn(b"/last", read_all(asks))
+                told, status = own.ended()
+                self.assertLess(time.monotonic() - began, 20)
+                ends = sorted(line.partition(": ")[2] for line in told[1:])
+                self.assertEqual(ends, ["1 requests, finished", "1 requests, idle", "2 requests, finished"])
+                self.assertEqual(status, 0)
 
     def begun(self, port):
         """A connection whose first request was answered."""

@@ -1,5 +1,5 @@
 -- What a server in several threads did, by what each thread did.
-use Rattle.std.proofs.Common.{◌≡◌, ◌≢◌, ◌⊎◌, inl, inr, ap, ap₂, ◌∙◌, refl, sym, subst, ℕ, List, [], ◌∷◌, All, length, map, replicate, Option, None, Result}
+use Rattle.std.proofs.Common.{◌≡◌, inl, inr, ap₂, refl, sym, subst, ℕ, List, [], ◌∷◌, All, length, map, replicate, Option, None, Result}
 use Rattle.std.specs.Prelude.{IfSome}
 use Rattle.std.proofs.lemmas.List.Elements.{All-head, All-tail, All-weaker}
 use Rattle.std.specs.declared.io.Error.{Error}
@@ -15,21 +15,17 @@ use Rattle.asgi_conversation.specs.declared.report.Report.{Report}
 use Rattle.asgi_conn.specs.Serving.{Serves}
 use Rattle.asgi_many.specs.declared.reactor.Next.{Next}
 use Rattle.asgi_many.specs.declared.seat.Departure.{Departure}
-use Rattle.asgi_many.specs.declared.seat.Ended.{Ended}
 use Rattle.asgi_many.specs.declared.serving.Served as many_served
-use Rattle.asgi_many.specs.Seats.{EndsOf}
-use Rattle.asgi_many.specs.Serving.{ServesMany, came_in, end_number}
-use Rattle.asgi_many.specs.Standing.{IsServed}
+use Rattle.asgi_many.specs.Serving.{ServesMany}
 use Rattle.asgi_server.specs.Connections.{PromisesWithin}
 use Rattle.asgi_threads.specs.Abreast.{Each}
 use Rattle.nomtsage.specs.declared.ending.Ending.{Ending}
 use Rattle.nomtsage.specs.declared.ending.Served.{Served}
-use Rattle.nomtsage.specs.declared.ending.Served.TheVariants as served
 use Rattle.nomtsage.specs.declared.fault.ServeError.{ServeError}
 use Rattle.nomtsage.specs.Running.{IsResultOf}
 use Rattle.nomtsage.specs.Seats.{InSeconds, ServesSeats, of_reports}
 use Rattle.nomtsage.specs.Serving.{Around, LivesOn}
-use Rattle.nomtsage.specs.Tables.{EachServes, RanTables, ServesTables, ServesThread, Thread, first_error, thread}
+use Rattle.nomtsage.specs.Tables.{EachServes, RanTables, ServesTables, Thread, first_error, thread}
 use Rattle.nomtsage.specs.private.Together.{all_in}
 
 module _ (one other : Promise) (within : PromisesWithin one other) (limits : Limits) (state : List (List ℕ × StateValue)) where

@@ -4,12 +4,11 @@ ghost use Rattle.asgi_server.specs.Arrivals.{IsLoopbackAt};
 ghost use Rattle.std.specs.Process.{exit_status};
 ghost use Rattle.nomtsage.specs.Running.{IsNumber, IsNumberBy, Ran, Runs, RunsTo, settings, status_of};
 
-use crate::engines::{HasWorkers, InSeats, InTables, InThread, InWorker};
+use crate::engines::{HasWorkers, InSeats, InThread, InWorker};
 use crate::fault::{ListenFault, ServeError};
 use crate::returning::result_of;
 use crate::serve::{serve_in_worker_on, serve_on};
 use crate::stop::{Stop, flag_of};
-use crate::table_engine::OwnThread;
 use crate::tellers::{LogLines, Quiet};
 use asgi_apps::{AppTask, Application};
 use asgi_conn::{Host, Report};
@@ -226,7 +225,7 @@ impl<'a, K: Drop, E: Drop, G: Drop> Server<'a, K, E, G> {
     }
 
     /// With this in the place of where its tasks ran.
-    fn with_engines<F: Drop>(self, engines: F) -> Server<'a, K, E, F>
+    pub(crate) fn with_engines<F: Drop>(self, engines: F) -> Server<'a, K, E, F>
         ensures set { result.engines ≡ engines }
         ensures others { let was = self.entry in (result.address ≡ was.address) × (result.workers ≡ was.workers) × (result.limits ≡ was.limits)
             × (result.count ≡ was.count) × (result.stop ≡ was.stop) × (result.on_report ≡ was.on_report) × (result.on_end ≡ was.on_end) }
@@ -251,28 +250,6 @@ impl<'a, K: Drop, E: Drop, G: Drop> Server<'a, K, E, G> {
             on_end,
             engines,
         }
-    }
-}
-
-impl<'a, K: Drop, E: Drop> Server<'a, K, E, InSeats> {
-    /// In this many threads, 1 to 8, the first of which is the one that calls `run`, each with as many seats as were set: for
-    /// applications that never block, on more than one processor. Another number is an error of `run`. All share one socket, and
-    /// each connection is accepted by one of them, and stays in its thread.
-    ///
-    /// The application is shared by reference. Each thread has a copy of the teller of `on_report`, which is told of its
-    /// connections under numbers of its own; `on_end` is called in the thread of the connection.
-    pub fn threads(self, count: u64) -> Server<'a, K, E, InTables<OwnThread>>
-        ensures set { (result.workers ≡ Some count) × (result.engines.seats ≡ self.entry.engines.seats) }
-        ensures others { let was = self.entry in (result.address ≡ was.address) × (result.limits ≡ was.limits) × (result.count ≡ was.count)
-            × (result.stop ≡ was.stop) × (result.on_report ≡ was.on_report) × (result.on_end ≡ was.on_end) }
-    {
-        let seats = self.engines.seats;
-        let mut server = self.with_engines(InTables {
-            seats,
-            engine: OwnThread,
-        });
-        server.workers = Some(count);
-        server
     }
 }
 

@@ -1,17 +1,17 @@
 //! A server of an address whose connections are in the seats of several threads: the call that serves.
-ghost use Rattle.std.specs.Prelude.{◌≡◌, ◌+◌, [], None, All, IfOk, IsOk, map, replicate, vec_len};
+ghost use Rattle.std.specs.Prelude.{◌≡◌, ◌+◌, [], None, Some, All, IfOk, IsOk, vec_len};
 ghost use Rattle.std.specs.Process.{exit_status};
 ghost use Rattle.nomtsage.specs.Running.{IsNumberBy, settings};
-ghost use Rattle.nomtsage.specs.Tables.{RanTables, RunsTables, RunsTablesTo, thread};
+ghost use Rattle.nomtsage.specs.Tables.{RanTables, RunsTables, RunsTablesTo};
 
 use crate::ending::Served;
-use crate::engines::InTables;
+use crate::engines::{InSeats, InTables};
 use crate::fault::{ListenFault, ServeError};
 use crate::returning::result_of;
 use crate::seated::{numbers_of, say_where};
 use crate::server::{Server, error_of, failed, workers_of};
 use crate::stop::flag_of;
-use crate::table_engine::TableEngineOf;
+use crate::table_engine::{OwnThread, TableEngineOf};
 use crate::tables::{Post, serve_in_tables, why_of};
 use asgi_apps::Application;
 use asgi_conn::{Host, Report};
@@ -25,6 +25,28 @@ use std::io;
 use std::net::Net;
 use std::process::ExitCode;
 use std::time::Clock;
+
+impl<'a, K: Drop, E: Drop> Server<'a, K, E, InSeats> {
+    /// In this many threads, 1 to 8, the first of which is the one that calls `run`, each with as many seats as were set: for
+    /// applications that never block, on more than one processor. Another number is an error of `run`. All share one socket, and
+    /// each connection is accepted by one of them, and stays in its thread.
+    ///
+    /// The application is shared by reference. Each thread has a copy of the teller of `on_report`, which is told of its
+    /// connections under numbers of its own; `on_end` is called in the thread of the connection.
+    pub fn threads(self, count: u64) -> Server<'a, K, E, InTables<OwnThread>>
+        ensures set { (result.workers ≡ Some count) × (result.engines.seats ≡ self.entry.engines.seats) }
+        ensures others { let was = self.entry in (result.address ≡ was.address) × (result.limits ≡ was.limits) × (result.count ≡ was.count)
+            × (result.stop ≡ was.stop) × (result.on_report ≡ was.on_report) × (result.on_end ≡ was.on_end) }
+    {
+        let seats = self.engines.seats;
+        let mut server = self.with_engines(InTables {
+            seats,
+            engine: OwnThread,
+        });
+        server.workers = Some(count);
+        server
+    }
+}
 
 impl<'a, K: Teller<Report> + Copy + Drop + Send, E: OnEnd + Drop + Sync, G: Drop + Sync> Server<
     'a,

@@ -18,6 +18,9 @@ use std::time::Clock;
 use words::{App, Seated, Served, Words, usage, words_of};
 use works::Works;
 
+/// How many seats each thread has.
+const SEATS: usize = 1_000;
+
 fn main(rt: HostRuntime) -> ExitCode {
     let Some(words) = words_of(&rt) else {
         return usage(&mut io::writer(&rt));
@@ -39,6 +42,7 @@ fn main(rt: HostRuntime) -> ExitCode {
                 .serve(&rt, &Works { rt, waits: false });
         }
         Served::Seated(app) => return seated(&rt, &words, app),
+        Served::Tabled(app) => return tabled(&rt, &words, app),
     };
     let stop = Stop::new();
     let server = Server::at(words.address)
@@ -86,5 +90,33 @@ fn few_turns() -> Limits {
     match Limits::new(16_384, 64, 1_048_576, 16_384, 16, 50, 1 << 40) {
         Ok(limits) => limits,
         Err(BadLimit) => Limits::usual(),
+    }
+}
+
+/// Serves the application in seats of several threads.
+fn tabled<H: Net + Clock + Log + Host + Sync + Drop>(
+    rt: &H,
+    words: &Words,
+    app: Seated,
+) -> ExitCode {
+    let stop = Stop::new();
+    let server = Server::at(words.address)
+        .connections(words.count)
+        .stop(&stop)
+        .log_connections(rt)
+        .in_seats(SEATS)
+        .threads(words.workers);
+    match app {
+        Seated::Hello => server.serve(rt, &Hello),
+        Seated::Ends => server.serve(rt, &Ends { stop: &stop }),
+        Seated::NoStart => server.serve(rt, &Life::NoStart),
+        Seated::NoStop => server.serve(rt, &Life::NoStop),
+        Seated::Waits => server.serve(
+            rt,
+            &Works {
+                rt: *rt,
+                waits: true,
+            },
+        ),
     }
 }

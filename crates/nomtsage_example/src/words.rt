@@ -29,6 +29,8 @@ pub enum Served {
     WorksInWorker,
     /// The application, by a server that logs its connections, which are in as many seats as there are to be workers.
     Seated(Seated),
+    /// The same in the seats of as many threads as there are to be workers.
+    Tabled(Seated),
 }
 
 /// The application that is to be served in seats.
@@ -76,6 +78,10 @@ fn served_named(name: &str) -> Option<Served> {
         "seatsnostart" => Some(Served::Seated(Seated::NoStart)),
         "seatsnostop" => Some(Served::Seated(Seated::NoStop)),
         "seatswaits" => Some(Served::Seated(Seated::Waits)),
+        "tables" => Some(Served::Tabled(Seated::Hello)),
+        "tablesends" => Some(Served::Tabled(Seated::Ends)),
+        "tablesnostart" => Some(Served::Tabled(Seated::NoStart)),
+        "tablesnostop" => Some(Served::Tabled(Seated::NoStop)),
         _ => Some(Served::Logged(app_named(name)?)),
     }
 }

@@ -8,6 +8,6 @@ pub returns : goal.returns
 returns g c =
     let (seconds, in_seconds, serves) = c.serve_in_tables-ending.ensures in
     let fresh = all_fresh (λ p. p.reactor.told.items) (λ p. p.on_report) (λ p. p.reactor.why) c.args.on_report c.args.posts.items c.requires.fresh
-        ∙ ap (λ n. replicate n (thread [] c.args.on_report None)) (sym c.args.posts.ok.0 ∙ c.requires.many) in
+    ∙ ap (λ n. replicate n (thread [] c.args.on_report None)) (sym c.args.posts.ok.0 ∙ c.requires.many) in
     let why = c.why_of.ensures ∙ ap (λ l. first_error (map (λ p. thread p.reactor.told.items p.on_report p.reactor.why) l)) c.as_slice.ensures.value in
     ran_tables _ _ _ _ _ _ _ _ _ _ _ _ fresh in_seconds serves (subst (λ w. IfSome w (λ e. c.error_of-why.result ≡ e)) why c.error_of-why.ensures) c.result_of.ensures

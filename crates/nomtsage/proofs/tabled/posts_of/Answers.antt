@@ -1,4 +1,4 @@
-use Rattle.std.proofs.Common.{ap, refl, rules, ◌+◌, ◌∙◌}
+use Rattle.std.proofs.Common.{ap, refl, ◌+◌, ◌∙◌}
 use Rattle.nomtsage.proofs.tabled.posts_of.Goals as goal
 
 pub loop-other-preserved : goal.loop-other-preserved
