@@ -116,7 +116,7 @@ impl Held {
         ensures bytes { TakesOn (taken (W.contents stream.old) self.old.buf.items self.old.start) (taken (W.contents stream.new) self.new.buf.items self.new.start) result buf.now }
     {
         if buf.len() <= JOINED.saturating_sub(self.len()) {
-            self.make_room(buf.len());
+            let _room = self.make_room(buf.len());
             if let Ok(()) = self.put(buf) {
                 return Ok(Took::All);
             }
@@ -125,12 +125,13 @@ impl Held {
     }
 
     /// Takes room for all that may wait, if this many bytes are the first. Where that is refused, `put` takes what it needs.
-    fn make_room(&mut self, many: usize)
+    fn make_room(&mut self, many: usize) -> Result<(), AllocError>
         ensures { waiting self.new.buf.items self.new.start ≡ waiting self.old.buf.items self.old.start }
     {
-        if many >= MANY && self.buf.is_empty() {
-            let _taken = self.buf.reserve(JOINED);
+        if many < MANY || !self.buf.is_empty() {
+            return Ok(());
         }
+        self.buf.reserve(JOINED)
     }
 
     /// All of these bytes wait, or none of them.
