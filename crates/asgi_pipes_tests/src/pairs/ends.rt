@@ -52,7 +52,7 @@ pub struct PlainPair {
     app: PlainApp,
     finished: bool,
     ghost pair: { IsPlainPair conn app },
-    ghost open: { finished ≡ false → app.state.ended ≡ None },
+    ghost open: { finished ≡ false → app.state.value.ended ≡ None },
 }
 
 impl Pair for PlainPair {
