@@ -253,7 +253,7 @@ def judge_served(whole):
 
 
 # The words of a server that serves no connection, and the texts of the log that say what it lacks: memory, or what needs it.
-OWN_RUNS = [["127.0.0.1:0", "0", "2", app] for app in ("hello", "ends", "seats")]
+OWN_RUNS = [["127.0.0.1:0", "0", "2", app] for app in ("hello", "ends", "seats", "tables")]
 OWN_USAGE = b"usage: nomtsage_example ADDRESS COUNT WORKERS APP\n"
 LISTENS = rb"\[INFO  \S+\] listening on http://127\.0\.0\.1:\d+\n"
 OWN_LACKS = rb"\[ERROR \S+\] (out of memory|no thread for a worker|cannot listen on 127\.0\.0\.1:0: the system refused it: [^\n]*)\n"

@@ -3,3 +3,4 @@ pub mod LivesLemmas
 pub mod RunLemmas
 pub mod SeatsLemmas
 pub mod TablesLemmas
+pub mod OneThread

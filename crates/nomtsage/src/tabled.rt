@@ -22,8 +22,9 @@ use asgi_ws::{Line, Wired};
 use log::Log;
 use std::alloc::Global;
 use std::io;
-use std::net::Net;
+use std::net::{Net, SocketAddr};
 use std::process::ExitCode;
+use std::sync::atomic::AtomicBool;
 use std::time::Clock;
 
 impl<'a, K: Drop, E: Drop> Server<'a, K, E, InSeats> {
@@ -103,24 +104,9 @@ impl<'a, K: Teller<Report> + Copy + Drop + Send, E: OnEnd + Drop + Sync, G: Drop
             engines,
         } = self;
         let numbers = numbers_of(engines.seats, count);
-        let first = match SocketReactor::open(rt, rt.alloc(), address, &numbers, flag_of(stop)) {
-            Ok(first) => first,
-            Err(e) => {
-                return Err(ServeError::CannotListen {
-                    address,
-                    why: ListenFault(e),
-                });
-            }
-        };
-        say_where(rt, &first);
         let quota = Quota::new(count);
-        let posts = match posts_of(
-            rt.alloc(),
-            first.within(&quota),
-            &numbers,
-            workers,
-            on_report,
-        ) {
+        let flag = flag_of(stop);
+        let posts = match open_posts(rt, address, &numbers, flag, &quota, workers, on_report) {
             Ok(posts) => posts,
             Err(e) => {
                 return Err(ServeError::CannotListen {
@@ -152,6 +138,23 @@ impl<'a, K: Teller<Report> + Copy + Drop + Send, E: OnEnd + Drop + Sync, G: Drop
             Err(e) => failed(rt, e),
         }
     }
+}
+
+/// Opens a socket that listens at this address, and has what each thread serves of it.
+fn open_posts<'r, H: Net + Clock + Log + Host, K: Copy + Drop>(
+    rt: &'r H,
+    address: SocketAddr,
+    numbers: &Numbers,
+    flag: Option<&'r AtomicBool>,
+    quota: &'r Quota,
+    threads: Workers,
+    on_report: K,
+) -> io::Result<Vec<Post<'r, H, K>>>
+    ensures many { IfOk result (λ posts. vec_len posts ≡ threads.count) }
+    ensures fresh { IfOk result (λ posts. All (λ p. (p.reactor.told.items ≡ []) × (p.reactor.why ≡ None) × (p.on_report ≡ on_report)) posts.items) }
+{
+    let first = SocketReactor::open(rt, rt.alloc(), address, numbers, flag)?;
+    posts_of(rt.alloc(), first.within(quota), numbers, threads, on_report)
 }
 
 /// What each thread serves: this reactor, and one beside it for each other thread, with a copy of the teller each.
@@ -218,6 +221,9 @@ fn listened_in_tables<
     requires fresh { All (λ p. (p.reactor.told.items ≡ []) × (p.reactor.why ≡ None) × (p.on_report ≡ on_report)) posts.items }
     ensures { RanTables ⟦<Wired<Polled> as Line>⟧.state K.tells (A.answers app.now) limits.now threads.count on_report result }
 {
+    if let Some(post) = posts.first() {
+        say_where(rt, &post.reactor);
+    }
     let (ending, posts) = serve_in_tables(rt, limits, numbers.seats, app, on_end, engine, posts);
     let why = error_of(why_of(posts.as_slice()));
     result_of(ending, why)
