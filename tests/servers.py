@@ -467,6 +467,39 @@ class Library(unittest.TestCase):
                 self.assertEqual(ends, ["1 requests, finished", "1 requests, idle", "2 requests, finished"])
                 self.assertEqual(status, 0)
 
+    def test_sessions_hear_that_the_server_goes_away(self):
+        import websockets
+
+        async def talk(port):
+            async with contextlib.AsyncExitStack() as open_ones:
+                sessions = [await open_ones.enter_async_context(websockets.connect(f"ws://127.0.0.1:{port}/", ping_interval=None)) for _ in range(5)]
+                for number, session in enumerate(sessions):
+                    await session.send(f"{number}")
+                    self.assertEqual(await session.recv(), f"{number}")
+                # One has sent half of a message, and one says something as the server begins to end.
+                sessions[0].transport.write(b"\x81\x85\0\0\0\0He")
+                await sessions[1].send("last")
+                self.assertEqual(await asyncio.to_thread(self.get, port, b"/end"), b"/end")
+                self.assertEqual(await sessions[1].recv(), "last")
+                for session in sessions:
+                    with self.assertRaises(websockets.ConnectionClosed):
+                        await session.recv()
+                return [(session.close_code, session.close_reason) for session in sessions]
+
+        for app in ("seatsends", "tablesends"):
+            with self.subTest(app=app), Own(app, count=1000) as own:
+                port = own.port()
+                began = time.monotonic()
+                ended = asyncio.run(asyncio.wait_for(talk(port), SECONDS))
+                told, status = own.ended()
+                # They end at once, and not by a limit.
+                self.assertLess(time.monotonic() - began, 15)
+                # 1001: an endpoint goes away (RFC 6455, section 7.4.1).
+                self.assertEqual(ended, [(1001, "")] * 5)
+                ends = sorted(line.partition(": ")[2] for line in told[1:])
+                self.assertEqual(ends, ["1 requests, finished"] * 6)
+                self.assertEqual(status, 0)
+
     def begun(self, port):
         """A connection whose first request was answered."""
         line = socket.create_connection(("127.0.0.1", port), timeout=SECONDS)

@@ -16,6 +16,7 @@ pub struct Numbers {
     pub least: u64,
     /// How many slow ticks one after another a client may have, before it is given up as if it were silent.
     pub slow: u32,
-    /// For how many ticks exchanges and sessions go on once the flag is set. Connections between two requests end at once.
+    /// For how many ticks exchanges and sessions go on once the flag is set. Connections between two requests end at once, and
+    /// sessions are told at once.
     pub leave: u32,
 }

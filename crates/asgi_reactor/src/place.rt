@@ -1,11 +1,17 @@
 //! What is known of a socket that was registered.
 use crate::pace::Pace;
 use crate::polled::Polled;
+use asgi_leaving::LeavingLine;
 use asgi_many::{Rest, Standing};
 use asgi_ws::Wired;
 
-/// A line over a socket that never waits.
-pub type PolledLine = Wired<Polled>;
+/// A line over a socket that never waits, whose session is told once the server goes away.
+pub type PolledLine = LeavingLine<Wired<Polled>>;
+
+/// The socket of a line.
+pub(crate) fn socket_of(line: &PolledLine) -> Option<&Polled> {
+    line.line().stream()
+}
 
 /// What a socket is used for.
 #[derive(Clone, Copy, Debug)]
@@ -106,7 +112,7 @@ impl Closing {
 
     /// Goes on to close it. Whether it is closed.
     pub(crate) fn is_closed(&self) -> bool {
-        match self.line.stream() {
+        match socket_of(&self.line) {
             Some(polled) => polled.close(),
             None => true,
         }
@@ -115,7 +121,7 @@ impl Closing {
     /// A tick has passed. Whether it was to be closed for long enough: it has shut its write half for some ticks, or nothing of what
     /// waits has left for this many.
     pub(crate) fn is_late(&mut self, patience: u32) -> bool {
-        let Some(polled) = self.line.stream() else {
+        let Some(polled) = socket_of(&self.line) else {
             return true;
         };
         if !polled.push() {

@@ -1,6 +1,6 @@
 //! The sockets that were registered, and those of them that are to be taken up.
 use crate::numbers::Numbers;
-use crate::place::{Clocked, Closing, Place, PolledLine, Use, is_exchange};
+use crate::place::{Clocked, Closing, Place, PolledLine, Use, is_exchange, socket_of};
 use asgi_many::{Ready, Rest};
 use mio::event::Event;
 use slab::Slab;
@@ -201,7 +201,7 @@ impl Queue {
         let Some(place) = self.places.get_mut(token) else {
             return;
         };
-        if let Some(polled) = line.stream() {
+        if let Some(polled) = socket_of(line) {
             place.rests(polled, rest, clocked);
         }
         if place.is_deaf {
@@ -247,8 +247,11 @@ impl Queue {
         }
     }
 
-    /// The line of this seat is told what the system told. Whether nothing of it waits for room.
+    /// The line of this seat is told what the system told, and whether the server goes away. Whether nothing of it waits for room.
     pub(crate) fn tell(&mut self, at: usize, line: &PolledLine) -> bool {
+        if self.clocked.leaving.is_some() {
+            line.leave();
+        }
         let patience = self.patience;
         let Some(token) = self.token_of(at) else {
             return true;
@@ -256,14 +259,17 @@ impl Queue {
         let Some(place) = self.places.get_mut(token) else {
             return true;
         };
-        match line.stream() {
+        match socket_of(line) {
             Some(polled) => place.tell(polled, patience),
             None => true,
         }
     }
 
-    /// The connection in this seat has ended, and its line is closed.
+    /// The connection in this seat has ended, and its line is closed. The client of a session that was told that the server goes away
+    /// is told too.
     pub(crate) fn close(&mut self, at: usize, line: PolledLine) {
+        let mut line = line;
+        line.close_session();
         let Some(token) = self.token_of(at) else {
             return;
         };
@@ -332,7 +338,7 @@ impl Queue {
         }
     }
 
-    /// The server is to end: each connection is taken up, and those between two requests end.
+    /// The server is to end: each connection is taken up, those between two requests end, and sessions are told.
     pub(crate) fn leave(&mut self) {
         if self.clocked.leaving.is_some() {
             return;

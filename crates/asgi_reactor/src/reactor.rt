@@ -6,10 +6,12 @@ use crate::faults::{Fault, fault_of};
 use crate::numbers::Numbers;
 use crate::peers::{own_peer, peer_at};
 pub use crate::place::PolledLine;
+use crate::place::socket_of;
 use crate::polled::Polled;
 use crate::queue::Queue;
 use crate::quota::Quota;
 use asgi_io::History;
+use asgi_leaving::LeavingLine;
 use asgi_many::{Newcomer, Next, Reactor, Ready, Rest};
 use asgi_types::Peer;
 use asgi_ws::Wired;
@@ -313,7 +315,7 @@ impl<R: Clock> SocketReactor<'_, R> {
             None => peer_at(self.alloc, stream.local_addr()),
         };
         Some(Newcomer {
-            line: Wired::new(self.alloc, Polled::new(self.alloc, stream)),
+            line: LeavingLine::new(Wired::new(self.alloc, Polled::new(self.alloc, stream))),
             client,
             server,
         })
@@ -476,7 +478,7 @@ impl<R: Clock> Reactor for SocketReactor<'_, R> {
 
     fn rests(&mut self, at: usize, line: &PolledLine, rest: Rest) {
         self.queue.rests(at, line, rest);
-        if let Some(polled) = line.stream() {
+        if let Some(polled) = socket_of(line) {
             let _all = polled.push();
         }
     }

@@ -41,9 +41,12 @@ module _ {L K : Type 0} (line_state : L → LineState) (tells : K → K → ℕ 
       → EachServes (ServesThread line_state tells answers seconds state) (thread [] teller None ∷ []) new how
       → One (λ one. ServesSeats line_state tells answers seconds one.why state (around [] teller) (around one.asked one.teller) how) new
   each_one state [] how none = absurd none
-  each_one state (is ∷ []) how (one, others, serves, rest, same) =
-      (is, refl, subst (λ h. ServesSeats line_state tells answers seconds is.why state (around [] teller) (around is.asked is.teller) h)
-      (sym (same ∙ ap (λ o. in_all one o) rest ∙ in_all_one one)) serves)
+  each_one state (is ∷ []) how (one, others, serves, rest, same) = (
+    is,
+    refl,
+    subst (λ h. ServesSeats line_state tells answers seconds is.why state (around [] teller) (around is.asked is.teller) h)
+        (sym (same ∙ ap (λ o. in_all one o) rest ∙ in_all_one one)) serves,
+  )
   each_one state (is ∷ more ∷ others) how (one, rest, serves, none, same) = absurd none
 
   tables_one : (state : List (List ℕ × StateValue)) (new : List (Thread (Next L) K)) (how : Served)

@@ -13,10 +13,10 @@ use crate::stop::flag_of;
 use crate::tellers::Tells;
 use asgi_apps::Application;
 use asgi_conn::{Host, Report};
-use asgi_reactor::{Numbers, Polled, SocketReactor};
+use asgi_reactor::{Numbers, PolledLine, SocketReactor};
 use asgi_server::{OnEnd, Teller};
 use asgi_types::Limits;
-use asgi_ws::{Line, Wired};
+use asgi_ws::Line;
 use log::{Log, info};
 use std::net::Net;
 use std::process::ExitCode;
@@ -50,7 +50,7 @@ impl<'a, K: Teller<Report> + Drop, E: OnEnd + Drop> Server<'a, K, E, InSeats> {
     ) -> Result<(), ServeError>
     where
         'a: 'r,
-        ensures { RunsSeats ⟦<Wired<Polled> as Line>⟧.state K.tells (A.answers app.now)
+        ensures { RunsSeats ⟦<PolledLine as Line>⟧.state K.tells (A.answers app.now)
             (settings self.entry.address self.entry.workers self.entry.limits self.entry.on_report) result }
     {
         let Server {
@@ -88,7 +88,7 @@ impl<'a, K: Teller<Report> + Drop, E: OnEnd + Drop> Server<'a, K, E, InSeats> {
     ) -> ExitCode
     where
         'a: 'r,
-        ensures { RunsSeatsTo ⟦<Wired<Polled> as Line>⟧.state K.tells (A.answers app.now)
+        ensures { RunsSeatsTo ⟦<PolledLine as Line>⟧.state K.tells (A.answers app.now)
             (settings self.entry.address self.entry.workers self.entry.limits self.entry.on_report) (exit_status result) }
     {
         match self.run(rt, app) {
@@ -127,7 +127,7 @@ fn listened_in_seats<
     mut tells: Tells<'_, K, E>,
 ) -> Result<(), ServeError>
     requires { reactor.told.items ≡ [] }
-    ensures { RanSeats ⟦<Wired<Polled> as Line>⟧.state K.tells (A.answers app.now) limits.now tells.entry.on_report result }
+    ensures { RanSeats ⟦<PolledLine as Line>⟧.state K.tells (A.answers app.now) limits.now tells.entry.on_report result }
 {
     say_where(rt, &reactor);
     let ending = serve_in_seats(rt, limits, seats, app, &mut reactor, &mut tells);

@@ -13,10 +13,10 @@ use asgi_conn::{Host, Report};
 use asgi_io::Pause;
 use asgi_kept::{Napping, Resting};
 use asgi_lifespan::{Lifespan, Start, Stop};
-use asgi_reactor::{Polled, Served as Ended, SocketReactor, serve_in_thread};
+use asgi_reactor::{PolledLine, Served as Ended, SocketReactor, serve_in_thread};
 use asgi_server::{OnEnd, Teller};
 use asgi_types::{Limits, State};
-use asgi_ws::{Line, Wired};
+use asgi_ws::Line;
 use futures::task::{Context, Doorbell, Solo};
 use std::io;
 use std::time::Clock;
@@ -61,7 +61,7 @@ pub(crate) fn serve_in_seats<H: Host, R: Clock, A: Application, E: OnEnd, K: Tel
     tells: &mut Tells<'_, K, E>,
 ) -> Ending
     ensures { (seconds : Limits) × InSeconds limits.now seconds
-        × LivesOn (ServesSeats ⟦<Wired<Polled> as Line>⟧.state K.tells (A.answers app.now) seconds reactor.new.why) (A.answers app.now) limits.now
+        × LivesOn (ServesSeats ⟦<PolledLine as Line>⟧.state K.tells (A.answers app.now) seconds reactor.new.why) (A.answers app.now) limits.now
         (around reactor.old.told.items tells.old.on_report) (around reactor.new.told.items tells.new.on_report) result }
 {
     let seconds = in_seconds(limits);
@@ -100,7 +100,7 @@ fn live<
     pause: &mut P,
     tells: &mut Tells<'_, K, E>,
 ) -> Ending
-    ensures { LivesOrNot (ServesSeats ⟦<Wired<Polled> as Line>⟧.state K.tells (A.answers app.now) seconds.now reactor.new.why) (A.answers app.now) limits.now
+    ensures { LivesOrNot (ServesSeats ⟦<PolledLine as Line>⟧.state K.tells (A.answers app.now) seconds.now reactor.new.why) (A.answers app.now) limits.now
         (around reactor.old.told.items tells.old.on_report) (around reactor.new.told.items tells.new.on_report)
         (P.count pause.old) (P.count pause.new) result }
 {
@@ -131,7 +131,7 @@ fn follow<
     pause: &mut P,
     tells: &mut Tells<'_, K, E>,
 ) -> Ending
-    ensures { FollowsStart (ServesSeats ⟦<Wired<Polled> as Line>⟧.state K.tells (A.answers app.now) seconds.now reactor.new.why) limits.now answer
+    ensures { FollowsStart (ServesSeats ⟦<PolledLine as Line>⟧.state K.tells (A.answers app.now) seconds.now reactor.new.why) limits.now answer
         (around reactor.old.told.items tells.old.on_report) (around reactor.new.told.items tells.new.on_report)
         (P.count pause.old) (P.count pause.new) result }
 {
@@ -161,7 +161,7 @@ fn serve<H: Host, R: Clock, A: Application, E: OnEnd, K: Teller<Report>>(
     reactor: &mut SocketReactor<'_, R>,
     tells: &mut Tells<'_, K, E>,
 ) -> Served
-    ensures { ServesSeats ⟦<Wired<Polled> as Line>⟧.state K.tells (A.answers app.now) limits.now reactor.new.why state.now
+    ensures { ServesSeats ⟦<PolledLine as Line>⟧.state K.tells (A.answers app.now) limits.now reactor.new.why state.now
         (around reactor.old.told.items tells.old.on_report) (around reactor.new.told.items tells.new.on_report) result }
 {
     match serve_in_thread(rt, limits, seats, state, app, reactor, tells) {

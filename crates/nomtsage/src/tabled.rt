@@ -15,10 +15,10 @@ use crate::table_engine::{OwnThread, TableEngineOf};
 use crate::tables::{Post, serve_in_tables, why_of};
 use asgi_apps::Application;
 use asgi_conn::{Host, Report};
-use asgi_reactor::{Numbers, Polled, Quota, SocketReactor};
+use asgi_reactor::{Numbers, PolledLine, Quota, SocketReactor};
 use asgi_server::{OnEnd, Teller, Workers};
 use asgi_types::Limits;
-use asgi_ws::{Line, Wired};
+use asgi_ws::Line;
 use log::Log;
 use std::alloc::Global;
 use std::io;
@@ -69,7 +69,7 @@ impl<'a, K: Teller<Report> + Copy + Drop + Send, E: OnEnd + Drop + Sync, G: Drop
     where
         'a: 'r,
         G: TableEngineOf<A>,
-        ensures { RunsTables ⟦<Wired<Polled> as Line>⟧.state K.tells (A.answers app.now)
+        ensures { RunsTables ⟦<PolledLine as Line>⟧.state K.tells (A.answers app.now)
             (settings self.entry.address self.entry.workers self.entry.limits self.entry.on_report) result }
     {
         let workers = match workers_of(rt, self.workers) {
@@ -90,7 +90,7 @@ impl<'a, K: Teller<Report> + Copy + Drop + Send, E: OnEnd + Drop + Sync, G: Drop
         'a: 'r,
         G: TableEngineOf<A>,
         requires { IsNumberBy self.workers workers.count }
-        ensures { RunsTables ⟦<Wired<Polled> as Line>⟧.state K.tells (A.answers app.now)
+        ensures { RunsTables ⟦<PolledLine as Line>⟧.state K.tells (A.answers app.now)
             (settings self.entry.address self.entry.workers self.entry.limits self.entry.on_report) result }
     {
         let Server {
@@ -130,7 +130,7 @@ impl<'a, K: Teller<Report> + Copy + Drop + Send, E: OnEnd + Drop + Sync, G: Drop
     where
         'a: 'r,
         G: TableEngineOf<A>,
-        ensures { RunsTablesTo ⟦<Wired<Polled> as Line>⟧.state K.tells (A.answers app.now)
+        ensures { RunsTablesTo ⟦<PolledLine as Line>⟧.state K.tells (A.answers app.now)
             (settings self.entry.address self.entry.workers self.entry.limits self.entry.on_report) (exit_status result) }
     {
         match self.run(rt, app) {
@@ -219,7 +219,7 @@ fn listened_in_tables<
 ) -> Result<(), ServeError>
     requires many { vec_len posts ≡ threads.count }
     requires fresh { All (λ p. (p.reactor.told.items ≡ []) × (p.reactor.why ≡ None) × (p.on_report ≡ on_report)) posts.items }
-    ensures { RanTables ⟦<Wired<Polled> as Line>⟧.state K.tells (A.answers app.now) limits.now threads.count on_report result }
+    ensures { RanTables ⟦<PolledLine as Line>⟧.state K.tells (A.answers app.now) limits.now threads.count on_report result }
 {
     if let Some(post) = posts.first() {
         say_where(rt, &post.reactor);

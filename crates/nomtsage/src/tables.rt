@@ -17,11 +17,11 @@ use asgi_conn::{Host, Report};
 use asgi_io::Pause;
 use asgi_kept::{Napping, Resting};
 use asgi_lifespan::{Lifespan, Start, Stop};
-use asgi_reactor::{Polled, SocketReactor};
+use asgi_reactor::{PolledLine, SocketReactor};
 use asgi_server::{OnEnd, Teller};
 use asgi_threads::{Abreast, Works, work_abreast};
 use asgi_types::{Limits, State};
-use asgi_ws::{Line, Wired};
+use asgi_ws::Line;
 use futures::task::{Context, Doorbell, Solo};
 use std::alloc::AllocGlobal;
 use std::io;
@@ -61,7 +61,7 @@ impl<
     ghost use Rattle.nomtsage.specs.Seats.{ServesSeats};
     ghost use Rattle.nomtsage.specs.Serving.{around};
 
-    ghost works = { λ s was is. ServesSeats ⟦<Wired<Polled> as Line>⟧.state K.tells (G.answers s.app.now) s.limits.now is.reactor.why s.state.now
+    ghost works = { λ s was is. ServesSeats ⟦<PolledLine as Line>⟧.state K.tells (G.answers s.app.now) s.limits.now is.reactor.why s.state.now
         (around was.reactor.told.items was.on_report) (around is.reactor.told.items is.on_report) is.how };
 
     fn work(&self, post: Post<'r, R, K>) -> Post<'r, R, K> {
@@ -116,7 +116,7 @@ fn serve_table<
     reactor: &mut SocketReactor<'_, R>,
     tells: &mut Tells<'_, K, E>,
 ) -> Served
-    ensures { ServesSeats ⟦<Wired<Polled> as Line>⟧.state K.tells (G.answers app.now) limits.now reactor.new.why state.now
+    ensures { ServesSeats ⟦<PolledLine as Line>⟧.state K.tells (G.answers app.now) limits.now reactor.new.why state.now
         (around reactor.old.told.items tells.old.on_report) (around reactor.new.told.items tells.new.on_report) result }
 {
     match engine.serve(rt, limits, seats, state, app, reactor, tells) {
@@ -178,7 +178,7 @@ fn serve<
     engine: &G,
     posts: Vec<Post<'r, R, K>>,
 ) -> (Served, Vec<Post<'r, R, K>>)
-    ensures { ServesTables ⟦<Wired<Polled> as Line>⟧.state K.tells (A.answers app.now) limits.now state.now
+    ensures { ServesTables ⟦<PolledLine as Line>⟧.state K.tells (A.answers app.now) limits.now state.now
         (map (λ p. thread p.reactor.told.items p.on_report p.reactor.why) posts.entry.items)
         (map (λ p. thread p.reactor.told.items p.on_report p.reactor.why) result.1.items) result.0 }
 {
@@ -218,7 +218,7 @@ pub(crate) fn serve_in_tables<
     posts: Vec<Post<'r, R, K>>,
 ) -> (Ending, Vec<Post<'r, R, K>>)
     ensures { (seconds : Limits) × InSeconds limits.now seconds
-        × LivesOn (ServesTables ⟦<Wired<Polled> as Line>⟧.state K.tells (A.answers app.now) seconds) (A.answers app.now) limits.now
+        × LivesOn (ServesTables ⟦<PolledLine as Line>⟧.state K.tells (A.answers app.now) seconds) (A.answers app.now) limits.now
         (map (λ p. thread p.reactor.told.items p.on_report p.reactor.why) posts.entry.items)
         (map (λ p. thread p.reactor.told.items p.on_report p.reactor.why) result.1.items) result.0 }
 {
@@ -261,7 +261,7 @@ fn live<
     cx: &mut Context<'_>,
     pause: &mut P,
 ) -> (Ending, Vec<Post<'r, R, K>>)
-    ensures { LivesOrNot (ServesTables ⟦<Wired<Polled> as Line>⟧.state K.tells (A.answers app.now) seconds.now) (A.answers app.now) limits.now
+    ensures { LivesOrNot (ServesTables ⟦<PolledLine as Line>⟧.state K.tells (A.answers app.now) seconds.now) (A.answers app.now) limits.now
         (map (λ p. thread p.reactor.told.items p.on_report p.reactor.why) posts.entry.items)
         (map (λ p. thread p.reactor.told.items p.on_report p.reactor.why) result.1.items)
         (P.count pause.old) (P.count pause.new) result.0 }
@@ -296,7 +296,7 @@ fn follow<
     cx: &mut Context<'_>,
     pause: &mut P,
 ) -> (Ending, Vec<Post<'r, R, K>>)
-    ensures { FollowsStart (ServesTables ⟦<Wired<Polled> as Line>⟧.state K.tells (A.answers app.now) seconds.now) limits.now answer
+    ensures { FollowsStart (ServesTables ⟦<PolledLine as Line>⟧.state K.tells (A.answers app.now) seconds.now) limits.now answer
         (map (λ p. thread p.reactor.told.items p.on_report p.reactor.why) posts.entry.items)
         (map (λ p. thread p.reactor.told.items p.on_report p.reactor.why) result.1.items)
         (P.count pause.old) (P.count pause.new) result.0 }

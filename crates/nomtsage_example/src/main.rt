@@ -10,7 +10,7 @@ mod works;
 use ends::Ends;
 use fails::Fails;
 use log::Log;
-use nomtsage::{BadLimit, Handled, Hello, Host, Life, Limits, Server, Stop};
+use nomtsage::{BadLimit, Both, Handled, Hello, Host, Life, Limits, Server, Stop, WsEcho};
 use std::io;
 use std::net::Net;
 use std::process::ExitCode;
@@ -72,7 +72,13 @@ fn seated<H: Net + Clock + Log + Host + Drop>(rt: &H, words: &Words, app: Seated
         .in_seats(words.workers as usize);
     match app {
         Seated::Hello => server.serve(rt, &Hello),
-        Seated::Ends => server.serve(rt, &Ends { stop: &stop }),
+        Seated::Ends => server.serve(
+            rt,
+            &Both {
+                http: Ends { stop: &stop },
+                ws: WsEcho,
+            },
+        ),
         Seated::NoStart => server.serve(rt, &Life::NoStart),
         Seated::NoStop => server.serve(rt, &Life::NoStop),
         Seated::Waits => server.serve(
@@ -108,7 +114,13 @@ fn tabled<H: Net + Clock + Log + Host + Sync + Drop>(
         .threads(words.workers);
     match app {
         Seated::Hello => server.serve(rt, &Hello),
-        Seated::Ends => server.serve(rt, &Ends { stop: &stop }),
+        Seated::Ends => server.serve(
+            rt,
+            &Both {
+                http: Ends { stop: &stop },
+                ws: WsEcho,
+            },
+        ),
         Seated::NoStart => server.serve(rt, &Life::NoStart),
         Seated::NoStop => server.serve(rt, &Life::NoStop),
         Seated::Waits => server.serve(
