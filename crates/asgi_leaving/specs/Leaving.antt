@@ -21,14 +21,14 @@ Tells before after found told =
 
 -- a call whose answer was changed is a read that gave the close
 abbrev pub told_call : (changed : Bool) → Call → Call
-told_call true call = call.Read (got.Message going_away)
-told_call false call = call
+told_call true one = call.Read (got.Message going_away)
+told_call false one = one
 
 -- the last calls first
 abbrev pub told_last : List Bool → List Call → List Call
 told_last [] calls = calls
 told_last (changed ∷ more) [] = []
-told_last (changed ∷ more) (call ∷ calls) = told_call changed call ∷ told_last more calls
+told_last (changed ∷ more) (one ∷ calls) = told_call changed one ∷ told_last more calls
 
 -- of the last ones it is known whether their answers were changed
 abbrev pub told_calls : List Bool → List Call → List Call

@@ -1,5 +1,6 @@
 //! A line whose session can be told that its server goes away.
-ghost use Rattle.std.specs.Prelude.{◌≡◌, ◌++◌, ◌∷◌, [], List, ℕ, IsTrue, IsFalse, false};
+ghost use Rattle.std.specs.Prelude.{◌≡◌, ◌++◌, ◌∷◌, [], None, IsTrue, IsFalse, false};
+ghost use Rattle.asgi_ws.specs.Sessions.{count_after, has_failed, is_failed};
 ghost use Rattle.asgi_ws.specs.Sides.{WriteSide, ReadSide};
 ghost use Rattle.asgi_ws.specs.declared.messages.Got.{Got};
 ghost use Rattle.asgi_ws.specs.declared.messages.Put.{Put};
@@ -169,7 +170,14 @@ impl<L: Line> Messages for LeavingLine<L> {
     ghost leftover = { λ w. L.leftover w.line };
 
     fn read_message(&mut self) -> Got
+        // The line below was read once, and this is told of what it found.
         ensures tells { (found : Got) × (L.calls self.new.line ≡ L.calls self.old.line ++ call.Read found ∷ []) × Tells self.old.has_told self.new.has_told found result }
+        ensures told { told_calls self.new.changed.items (L.calls self.new.line) ≡ told_calls self.old.changed.items (L.calls self.old.line) ++ call.Read result ∷ [] }
+        ensures counts { L.failed self.new.line ≡ count_after (L.failed self.old.line) (is_failed result) }
+        ensures shut { L.leftover self.old.line ≡ None → result ≡ Got.Failed }
+        ensures same { L.leftover self.new.line ≡ L.leftover self.old.line }
+        ensures text { (L.remaining self.new.line ≡ L.remaining self.old.line) × (L.written self.new.line ≡ L.written self.old.line)
+            × (L.Reads.answers self.new.line ≡ L.Reads.answers self.old.line) × (L.Counts.answers self.new.line ≡ L.Counts.answers self.old.line) }
     {
         let found = self.line.read_message();
         let had_told = self.has_told;
@@ -181,6 +189,12 @@ impl<L: Line> Messages for LeavingLine<L> {
     fn send_message(&mut self, payload: Payload) -> Put
         ensures sends { L.calls self.new.line ≡ L.calls self.old.line ++ call.Send (item.Payload payload) result ∷ [] }
         ensures untold { self.new.has_told ≡ self.old.has_told }
+        ensures told { told_calls self.new.changed.items (L.calls self.new.line) ≡ told_calls self.old.changed.items (L.calls self.old.line) ++ call.Send (item.Payload payload) result ∷ [] }
+        ensures counts { L.failed self.new.line ≡ count_after (L.failed self.old.line) (has_failed result) }
+        ensures shut { L.leftover self.old.line ≡ None → result ≡ Put.Failed }
+        ensures same { L.leftover self.new.line ≡ L.leftover self.old.line }
+        ensures text { (L.remaining self.new.line ≡ L.remaining self.old.line) × (L.written self.new.line ≡ L.written self.old.line)
+            × (L.Reads.answers self.new.line ≡ L.Reads.answers self.old.line) × (L.Counts.answers self.new.line ≡ L.Counts.answers self.old.line) }
     {
         let put = self.line.send_message(payload);
         self.count(false);
@@ -190,6 +204,12 @@ impl<L: Line> Messages for LeavingLine<L> {
     fn send_close(&mut self, code: u16, reason: Reason) -> Put
         ensures sends { L.calls self.new.line ≡ L.calls self.old.line ++ call.Send (item.Close code reason) result ∷ [] }
         ensures untold { self.new.has_told ≡ self.old.has_told }
+        ensures told { told_calls self.new.changed.items (L.calls self.new.line) ≡ told_calls self.old.changed.items (L.calls self.old.line) ++ call.Send (item.Close code reason) result ∷ [] }
+        ensures counts { L.failed self.new.line ≡ count_after (L.failed self.old.line) (has_failed result) }
+        ensures shut { L.leftover self.old.line ≡ None → result ≡ Put.Failed }
+        ensures same { L.leftover self.new.line ≡ L.leftover self.old.line }
+        ensures text { (L.remaining self.new.line ≡ L.remaining self.old.line) × (L.written self.new.line ≡ L.written self.old.line)
+            × (L.Reads.answers self.new.line ≡ L.Reads.answers self.old.line) × (L.Counts.answers self.new.line ≡ L.Counts.answers self.old.line) }
     {
         let put = self.line.send_close(code, reason);
         self.count(false);

@@ -37,28 +37,39 @@ pub trait Reactor {
     // How each call of `try_next` was answered, in order.
     ghost answers: { Self → List (Next Self.L) };
 
+    // What each call keeps: of a reactor with a limit, say, how many connections it has given and will give at the most.
+    ghost Kept: { Type 0 };
+
+    ghost kept: { Self → Kept };
+
     /// The next connection, which takes this seat. It does not wait.
     fn try_next(&mut self, at: usize) -> Next<Self::L>
-        ensures told { answers self.new ≡ answers self.old ++ result ∷ [] };
+        ensures told { answers self.new ≡ answers self.old ++ result ∷ [] }
+        ensures kept { kept self.new ≡ kept self.old };
 
     /// What may be done next. It may wait for it.
     fn wait(&mut self) -> Ready
-        ensures told { answers self.new ≡ answers self.old };
+        ensures told { answers self.new ≡ answers self.old }
+        ensures kept { kept self.new ≡ kept self.old };
 
     /// Whether the connection in this seat may take a turn now. Not while the end of a text waits to leave, for example.
     fn may_go_on(&mut self, at: usize, line: &Self::L) -> bool
-        ensures told { answers self.new ≡ answers self.old };
+        ensures told { answers self.new ≡ answers self.old }
+        ensures kept { kept self.new ≡ kept self.old };
 
     /// The connection in this seat moved something in its turn, and may move more at once.
     fn again(&mut self, at: usize)
-        ensures told { answers self.new ≡ answers self.old };
+        ensures told { answers self.new ≡ answers self.old }
+        ensures kept { kept self.new ≡ kept self.old };
 
     /// The connection in this seat moved nothing in its turn, and rests here: what was written for it is not to wait any longer. In
     /// an exchange its task may wait for something else than its line.
     fn rests(&mut self, at: usize, line: &Self::L, rest: Rest)
-        ensures told { answers self.new ≡ answers self.old };
+        ensures told { answers self.new ≡ answers self.old }
+        ensures kept { kept self.new ≡ kept self.old };
 
     /// The connection in this seat has ended, and the seat is free. Its line is closed once what was written has left.
     fn close(&mut self, at: usize, line: Self::L)
-        ensures told { answers self.new ≡ answers self.old };
+        ensures told { answers self.new ≡ answers self.old }
+        ensures kept { kept self.new ≡ kept self.old };
 }

@@ -28,7 +28,8 @@ pub enum Served {
 /// upwards.
 ///
 /// The memory of the table is taken first, and if it is refused the reactor is not asked. While each seat is taken none is asked for,
-/// so none that came is sent away. A line is given back to the reactor once its connection has ended.
+/// so none that came is sent away. A line is given back to the reactor once its connection has ended. What each call of the
+/// reactor keeps is kept.
 pub fn serve_many<
     X: Drop,
     A: Application,
@@ -48,6 +49,7 @@ pub fn serve_many<
     ensures serves { IfOk result (λ how. ServesMany K.tells (A.answers app.now) N.L.state limits.now state.now (N.answers reactor.old) (N.answers reactor.new)
         teller.old teller.new how) }
     ensures no_memory { IsErr result → (N.answers reactor.new ≡ N.answers reactor.old) × (teller.new ≡ teller.old) }
+    ensures kept { N.kept reactor.new ≡ N.kept reactor.old }
 {
     let mut table = Table::new::<A, U>(alloc, limits, places)?;
     let mut calls = Calls::of(app);
@@ -88,6 +90,7 @@ fn step<
         → Going A.Task.answers U.Pipes.Conn.ConnEnd U.Pipes.App.AppEnd U.conn U.began (A.answers calls.old.app.now) N.L.state limits state.now K.tells
         asked (N.answers reactor.new) told teller.new table.new }
     ensures same { calls.new.app.now ≡ calls.old.app.now }
+    ensures kept { N.kept reactor.new ≡ N.kept reactor.old }
 {
     if intake.asks() && table.has_seat() {
         return take_in::<X, A, N, U>(table, state, reactor);
@@ -118,6 +121,7 @@ fn take_in<X: Drop, A: Application, N: Reactor, U: Runner<A::Task, Exchange = X>
         → Sits A.Task.answers U.Pipes.Conn.ConnEnd U.Pipes.App.AppEnd U.conn U.began (A.answers app) N.L.state limits state.now asked (N.answers reactor.old) places table.old
         → (more : List (Option (Ended N.L))) × Adds places more
         × Sits A.Task.answers U.Pipes.Conn.ConnEnd U.Pipes.App.AppEnd U.conn U.began (A.answers app) N.L.state limits state.now asked (N.answers reactor.new) more table.new }
+    ensures kept { N.kept reactor.new ≡ N.kept reactor.old }
 {
     let at = table.next_seat();
     match reactor.try_next(at) {
@@ -158,6 +162,7 @@ fn go_on<
         → Going A.Task.answers U.Pipes.Conn.ConnEnd U.Pipes.App.AppEnd U.conn U.began (A.answers calls.old.app.now) N.L.state limits state.now K.tells
         asked (N.answers reactor.new) told teller.new table.new }
     ensures same { calls.new.app.now ≡ calls.old.app.now }
+    ensures kept { N.kept reactor.new ≡ N.kept reactor.old }
 {
     let Some(line) = table.line(at) else {
         return;
@@ -201,6 +206,7 @@ fn leave<
         → Going A.Task.answers U.Pipes.Conn.ConnEnd U.Pipes.App.AppEnd U.conn U.began (A.answers calls.old.app.now) N.L.state limits state.now K.tells
         asked (N.answers reactor.new) told teller.new table.new }
     ensures same { calls.new.app.now ≡ calls.old.app.now }
+    ensures kept { N.kept reactor.new ≡ N.kept reactor.old }
 {
     match table.turn(at, cause, state, calls, runner) {
         Turned::NoOne => {}
@@ -212,7 +218,8 @@ fn leave<
 
 /// The connection in this seat waits, and what it wrote leaves.
 fn rests<X, N: Reactor>(table: &Table<X, N::L>, at: usize, reactor: &mut N)
-    ensures { N.answers reactor.new ≡ N.answers reactor.old }
+    ensures told { N.answers reactor.new ≡ N.answers reactor.old }
+    ensures kept { N.kept reactor.new ≡ N.kept reactor.old }
 {
     let Some(line) = table.line(at) else {
         return;
@@ -233,6 +240,7 @@ fn over<N: Reactor, K: Teller<Departure>>(
     requires { end.number < 2 ^ 64 - 1 }
     ensures told { K.tells teller.old teller.new (end.number + 1) (departure_of end) }
     ensures same { N.answers reactor.new ≡ N.answers reactor.old }
+    ensures kept { N.kept reactor.new ≡ N.kept reactor.old }
 {
     let Ended {
         number,

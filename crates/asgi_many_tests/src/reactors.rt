@@ -1,6 +1,6 @@
 //! A server over a reactor that names seats in an order that a seed draws, also free ones and ones that are not there: each
 //! connection is served as it is alone, and told of once.
-ghost use Rattle.std.specs.Prelude.{◌≡◌, ◌++◌, ◌∷◌, []};
+ghost use Rattle.std.specs.Prelude.{◌≡◌, ◌++◌, ◌∷◌, [], Unit, tt};
 
 use crate::drawn::INPUTS;
 use crate::lines::{Input, Line, alone, comers_of};
@@ -63,6 +63,10 @@ impl Reactor for Drawn {
     type L = Line;
 
     ghost answers = { λ r. r.told.items };
+
+    ghost Kept = { Unit {0} };
+
+    ghost kept = { λ _. tt };
 
     fn try_next(&mut self, _at: usize) -> Next<Line> {
         let next = self.next();

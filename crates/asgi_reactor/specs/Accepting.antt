@@ -1,5 +1,6 @@
 -- What an answer of a reactor says of what was accepted.
-use Rattle.std.specs.Prelude.{⊤}
+use Rattle.std.specs.Prelude.{⊤, ℕ, ◌+◌, List, length}
+use Rattle.asgi_many.specs.Serving.{came_in}
 use Rattle.asgi_many.specs.declared.reactor.Next.{Next}
 use Rattle.asgi_many.specs.declared.reactor.Next.TheVariants.{Arrived, NoneNow, NoneEver}
 use Rattle.asgi_many.specs.declared.seat.Newcomer.{Newcomer}
@@ -15,3 +16,7 @@ abbrev pub IsNone : {L : Type 0} → Next L → Type 0
 IsNone (Arrived newcomer) = ⊥
 IsNone NoneNow = ⊤
 IsNone NoneEver = ⊤
+
+-- how many came and will still be accepted at the most, if a reactor has answered so and this many are left
+abbrev pub in_all : {L : Type 0} → List (Next L) → ℕ → ℕ
+in_all answers left = length (came_in answers) + left

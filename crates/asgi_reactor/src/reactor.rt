@@ -1,6 +1,6 @@
 //! Where the connections of a port come from, and which of them may go on.
-ghost use Rattle.std.specs.Prelude.{◌≡◌, ◌+◌, ◌++◌, ◌∷◌, [], None, IfOk, IsFalse};
-ghost use Rattle.asgi_reactor.specs.Accepting.{IfArrived, IsNone};
+ghost use Rattle.std.specs.Prelude.{◌≡◌, ◌+◌, ◌++◌, ◌∷◌, [], ℕ, None, IfOk, IsFalse};
+ghost use Rattle.asgi_reactor.specs.Accepting.{IfArrived, IsNone, in_all};
 
 use crate::faults::{Fault, fault_of};
 use crate::numbers::Numbers;
@@ -447,6 +447,11 @@ impl<R: Clock> Reactor for SocketReactor<'_, R> {
     type L = PolledLine;
 
     ghost answers = { λ r. r.told.items };
+
+    ghost Kept = { ℕ };
+
+    // At most the number that it was told are accepted.
+    ghost kept = { λ r. in_all r.told.items r.left };
 
     fn try_next(&mut self, at: usize) -> Next<PolledLine>
         ensures told { self.new.told.items ≡ self.old.told.items ++ result ∷ [] }

@@ -29,6 +29,7 @@ pub fn serve_in_thread<
     ensures serves { IfOk result (λ how. ServesMany K.tells (A.answers app.now) N.L.state limits.now state.now (N.answers reactor.old) (N.answers reactor.new)
         teller.old teller.new how) }
     ensures no_memory { IsErr result → (N.answers reactor.new ≡ N.answers reactor.old) × (teller.new ≡ teller.old) }
+    ensures kept { N.kept reactor.new ≡ N.kept reactor.old }
 {
     let solo = Solo::new(rt, Doorbell::spinning())?;
     let mut runner = Inline::new(solo.begin());

@@ -1,5 +1,5 @@
 -- What a server in seats did, by what gets the reports alone.
-use Rattle.std.proofs.Common.{◌≡◌, ap, ap₂, subst, ℕ, List, [], ◌∷◌, Option, Result}
+use Rattle.std.proofs.Common.{◌≡◌, ◌+◌, ◌≤◌, ap, ap₂, arith, length, subst, ℕ, List, [], ◌∷◌, Option, Result}
 use Rattle.std.specs.Prelude.{IfSome}
 use Rattle.std.specs.declared.io.Error.{Error}
 use Rattle.asgi_types.specs.declared.limits.Limits.{Limits}
@@ -11,7 +11,8 @@ use Rattle.asgi_conversation.specs.declared.report.Report.{Report}
 use Rattle.asgi_many.specs.declared.reactor.Next.{Next}
 use Rattle.asgi_many.specs.declared.seat.Departure.{Departure}
 use Rattle.asgi_many.specs.declared.serving.Served as many_served
-use Rattle.asgi_many.specs.Serving.{ServesMany}
+use Rattle.asgi_many.specs.Serving.{ServesMany, came_in}
+use Rattle.asgi_reactor.specs.Accepting.{in_all}
 use Rattle.nomtsage.specs.declared.ending.Ending.{Ending}
 use Rattle.nomtsage.specs.declared.fault.ServeError.{ServeError}
 use Rattle.nomtsage.specs.Running.{IsResultOf}
@@ -44,6 +45,12 @@ module _ {K T : Type 0} (tells : K → K → ℕ → Report → Type 0) (part : 
 -- nothing was asked for, and nothing told
 pub same_around : {Q K T : Type 0} (part : T → K) (asked_old asked_new : List Q) (was is : T) → asked_new ≡ asked_old → is ≡ was → around asked_new (part is) ≡ around asked_old (part was)
 same_around part asked_old asked_new was is asked same = ap₂ (λ a t. around a (part t)) asked same
+
+-- at most as many came as were left at first, if none had come before
+pub few_came : {L : Type 0} (was asked : List (Next L)) (left_old left_new : ℕ) → was ≡ [] → in_all asked left_new ≡ in_all was left_old → length (came_in asked) ≤ left_old
+few_came was asked left_old left_new none same =
+    let from_none : in_all was left_old ≡ left_old = ap (λ l. in_all l left_old) none in
+    omega (arith, same, from_none)
 
 -- what a server in seats did that had been asked for nothing before
 pub ran_seats : {L K : Type 0} (line_state : L → LineState) (tells : K → K → ℕ → Report → Type 0) (answers : Promise) (limits seconds : Limits)

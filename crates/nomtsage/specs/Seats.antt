@@ -1,5 +1,5 @@
 -- How a server serves in seats: many connections in one thread, each taken up turn by turn.
-use Rattle.std.specs.Prelude.{◌≡◌, ◌⊎◌, ◌+◌, ◌*◌, ◌<◌, ◌≤◌, ℕ, List, [], Option, Some, None, Result, IfSome}
+use Rattle.std.specs.Prelude.{◌≡◌, ◌⊎◌, ◌+◌, ◌*◌, ◌<◌, ◌≤◌, ℕ, List, [], length, Option, Some, None, Result, IfSome}
 use Rattle.std.specs.Result.{IsErrOf}
 use Rattle.std.specs.declared.io.Error.{Error}
 use Rattle.asgi_types.specs.declared.limits.Limits.{Limits}
@@ -12,7 +12,7 @@ use Rattle.asgi_many.specs.declared.reactor.Next.{Next}
 use Rattle.asgi_many.specs.declared.seat.Departure.{Departure}
 use Rattle.asgi_many.specs.declared.serving.Served as many_served
 use Rattle.asgi_many.specs.declared.serving.Served.TheVariants as many
-use Rattle.asgi_many.specs.Serving.{ServesMany}
+use Rattle.asgi_many.specs.Serving.{ServesMany, came_in}
 use Rattle.nomtsage.specs.declared.ending.Ending.{Ending}
 use Rattle.nomtsage.specs.declared.ending.Served.{Served}
 use Rattle.nomtsage.specs.declared.ending.Served.TheVariants as served
@@ -72,10 +72,14 @@ module _ {L K : Type 0} (line_state : L → LineState) (tells : K → K → ℕ 
     pub is_why : IfSome why (λ e. given ≡ e)
     pub result_is : IsResultOf ends given result
 
+  -- the same, and at most so many connections came
+  abbrev pub RanFew : Limits → (count : ℕ) → K → Result (Unit {0}) ServeError → Type 0
+  RanFew limits count teller result = (ran : RanSeats limits teller result) × (length (came_in ran.asked) ≤ count)
+
   -- it served so as it was set, or the address can't be listened on, and nothing was started
-  abbrev pub RunsSeats : Settings K → Result (Unit {0}) ServeError → Type 0
-  RunsSeats set result = RanSeats set.limits set.teller result ⊎ ((why : ListenFault) × IsErrOf result (error.CannotListen set.address why))
+  abbrev pub RunsSeats : Settings K → (count : ℕ) → Result (Unit {0}) ServeError → Type 0
+  RunsSeats set count result = RanFew set.limits count set.teller result ⊎ ((why : ListenFault) × IsErrOf result (error.CannotListen set.address why))
 
   -- the same of a program that ends by it
-  abbrev pub RunsSeatsTo : Settings K → ℕ → Type 0
-  RunsSeatsTo set status = (result : Result (Unit {0}) ServeError) × RunsSeats set result × (status ≡ exit_of result)
+  abbrev pub RunsSeatsTo : Settings K → (count : ℕ) → (status : ℕ) → Type 0
+  RunsSeatsTo set count status = (result : Result (Unit {0}) ServeError) × RunsSeats set count result × (status ≡ exit_of result)

@@ -2,7 +2,7 @@
 ghost use Rattle.std.specs.Prelude.{◌≡◌, []};
 ghost use Rattle.std.specs.Process.{exit_status};
 ghost use Rattle.nomtsage.specs.Running.{settings};
-ghost use Rattle.nomtsage.specs.Seats.{RanSeats, RunsSeats, RunsSeatsTo};
+ghost use Rattle.nomtsage.specs.Seats.{RanFew, RunsSeats, RunsSeatsTo};
 
 use crate::engines::InSeats;
 use crate::fault::{ListenFault, ServeError};
@@ -51,7 +51,7 @@ impl<'a, K: Teller<Report> + Drop, E: OnEnd + Drop> Server<'a, K, E, InSeats> {
     where
         'a: 'r,
         ensures { RunsSeats ⟦<PolledLine as Line>⟧.state K.tells (A.answers app.now)
-            (settings self.entry.address self.entry.workers self.entry.limits self.entry.on_report) result }
+            (settings self.entry.address self.entry.workers self.entry.limits self.entry.on_report) self.entry.count result }
     {
         let Server {
             address,
@@ -89,7 +89,7 @@ impl<'a, K: Teller<Report> + Drop, E: OnEnd + Drop> Server<'a, K, E, InSeats> {
     where
         'a: 'r,
         ensures { RunsSeatsTo ⟦<PolledLine as Line>⟧.state K.tells (A.answers app.now)
-            (settings self.entry.address self.entry.workers self.entry.limits self.entry.on_report) (exit_status result) }
+            (settings self.entry.address self.entry.workers self.entry.limits self.entry.on_report) self.entry.count (exit_status result) }
     {
         match self.run(rt, app) {
             Ok(()) => ExitCode::from(0),
@@ -99,7 +99,9 @@ impl<'a, K: Teller<Report> + Drop, E: OnEnd + Drop> Server<'a, K, E, InSeats> {
 }
 
 /// The numbers of a reactor with so many seats, for so many connections.
-pub(crate) fn numbers_of(seats: usize, count: u64) -> Numbers {
+pub(crate) fn numbers_of(seats: usize, count: u64) -> Numbers
+    ensures { result.count ≡ count }
+{
     Numbers {
         seats,
         count,
@@ -127,7 +129,7 @@ fn listened_in_seats<
     mut tells: Tells<'_, K, E>,
 ) -> Result<(), ServeError>
     requires { reactor.told.items ≡ [] }
-    ensures { RanSeats ⟦<PolledLine as Line>⟧.state K.tells (A.answers app.now) limits.now tells.entry.on_report result }
+    ensures { RanFew ⟦<PolledLine as Line>⟧.state K.tells (A.answers app.now) limits.now reactor.entry.left tells.entry.on_report result }
 {
     say_where(rt, &reactor);
     let ending = serve_in_seats(rt, limits, seats, app, &mut reactor, &mut tells);

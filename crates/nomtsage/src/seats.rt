@@ -2,6 +2,7 @@
 ghost use Rattle.std.specs.Prelude.{◌≡◌, ◌⊎◌, Option};
 ghost use Rattle.std.specs.declared.io.Error.{Error};
 ghost use Rattle.asgi_types.specs.declared.limits.Limits.{Limits};
+ghost use Rattle.asgi_reactor.specs.Accepting.{in_all};
 ghost use Rattle.nomtsage.specs.Seats.{AreSeconds, InSeconds, ServesSeats, served_in};
 ghost use Rattle.nomtsage.specs.Serving.{LivesOn, LivesOrNot, around};
 ghost use Rattle.nomtsage.specs.private.Following.{FollowsStart};
@@ -60,9 +61,10 @@ pub(crate) fn serve_in_seats<H: Host, R: Clock, A: Application, E: OnEnd, K: Tel
     reactor: &mut SocketReactor<'_, R>,
     tells: &mut Tells<'_, K, E>,
 ) -> Ending
-    ensures { (seconds : Limits) × InSeconds limits.now seconds
+    ensures serves { (seconds : Limits) × InSeconds limits.now seconds
         × LivesOn (ServesSeats ⟦<PolledLine as Line>⟧.state K.tells (A.answers app.now) seconds reactor.new.why) (A.answers app.now) limits.now
         (around reactor.old.told.items tells.old.on_report) (around reactor.new.told.items tells.new.on_report) result }
+    ensures kept { in_all reactor.new.told.items reactor.new.left ≡ in_all reactor.old.told.items reactor.old.left }
 {
     let seconds = in_seconds(limits);
     let Ok(solo) = Solo::new(rt, Doorbell::spinning()) else {
@@ -100,9 +102,10 @@ fn live<
     pause: &mut P,
     tells: &mut Tells<'_, K, E>,
 ) -> Ending
-    ensures { LivesOrNot (ServesSeats ⟦<PolledLine as Line>⟧.state K.tells (A.answers app.now) seconds.now reactor.new.why) (A.answers app.now) limits.now
+    ensures lives { LivesOrNot (ServesSeats ⟦<PolledLine as Line>⟧.state K.tells (A.answers app.now) seconds.now reactor.new.why) (A.answers app.now) limits.now
         (around reactor.old.told.items tells.old.on_report) (around reactor.new.told.items tells.new.on_report)
         (P.count pause.old) (P.count pause.new) result }
+    ensures kept { in_all reactor.new.told.items reactor.new.left ≡ in_all reactor.old.told.items reactor.old.left }
 {
     let answer = Lifespan::start(rt.alloc(), app, limits, cx, pause);
     follow(
@@ -131,9 +134,10 @@ fn follow<
     pause: &mut P,
     tells: &mut Tells<'_, K, E>,
 ) -> Ending
-    ensures { FollowsStart (ServesSeats ⟦<PolledLine as Line>⟧.state K.tells (A.answers app.now) seconds.now reactor.new.why) limits.now answer
+    ensures follows { FollowsStart (ServesSeats ⟦<PolledLine as Line>⟧.state K.tells (A.answers app.now) seconds.now reactor.new.why) limits.now answer
         (around reactor.old.told.items tells.old.on_report) (around reactor.new.told.items tells.new.on_report)
         (P.count pause.old) (P.count pause.new) result }
+    ensures kept { in_all reactor.new.told.items reactor.new.left ≡ in_all reactor.old.told.items reactor.old.left }
 {
     match answer {
         Start::Started(lifespan, state) => {
@@ -161,8 +165,9 @@ fn serve<H: Host, R: Clock, A: Application, E: OnEnd, K: Teller<Report>>(
     reactor: &mut SocketReactor<'_, R>,
     tells: &mut Tells<'_, K, E>,
 ) -> Served
-    ensures { ServesSeats ⟦<PolledLine as Line>⟧.state K.tells (A.answers app.now) limits.now reactor.new.why state.now
+    ensures serves { ServesSeats ⟦<PolledLine as Line>⟧.state K.tells (A.answers app.now) limits.now reactor.new.why state.now
         (around reactor.old.told.items tells.old.on_report) (around reactor.new.told.items tells.new.on_report) result }
+    ensures kept { in_all reactor.new.told.items reactor.new.left ≡ in_all reactor.old.told.items reactor.old.left }
 {
     match serve_in_thread(rt, limits, seats, state, app, reactor, tells) {
         Ok(ended) => served_in(ended, reactor.why()),

@@ -19,7 +19,7 @@ returns-in-Some-Moved-clause-goes_on g c limits asked told going =
 
 pub returns-in-Some-Idle-clause-goes_on : goal.returns-in-Some-Idle-clause-goes_on
 returns-in-Some-Idle-clause-goes_on g c limits asked told going =
-    lemma.goes_on _ _ _ _ _ _ _ limits _ _ asked _ _ told _ _ _ (c.rests.ensures ∙ c.may_go_on.ensures.told) c.look.ensures.limits.0
+    lemma.goes_on _ _ _ _ _ _ _ limits _ _ asked _ _ told _ _ _ (c.rests.ensures.told ∙ c.may_go_on.ensures.told) c.look.ensures.limits.0
     (λ came places holds. c.look.ensures.holds came places holds) going
 
 pub returns-in-Some-Over-clause-goes_on : goal.returns-in-Some-Over-clause-goes_on

@@ -25,7 +25,7 @@ returns-in-Moved-clause-goes_on g c limits asked told going =
 
 pub returns-in-Idle-clause-goes_on : goal.returns-in-Idle-clause-goes_on
 returns-in-Idle-clause-goes_on g c limits asked told going =
-    lemma.goes_on _ _ _ _ _ _ _ limits _ _ asked _ _ told _ _ _ c.rests.ensures c.turn.ensures.limits.0
+    lemma.goes_on _ _ _ _ _ _ _ limits _ _ asked _ _ told _ _ _ c.rests.ensures.told c.turn.ensures.limits.0
     (λ came places holds. c.in-Idle.ensures.holds came places holds) going
 
 pub returns-in-Over-clause-goes_on : goal.returns-in-Over-clause-goes_on

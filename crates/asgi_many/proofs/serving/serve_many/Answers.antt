@@ -7,6 +7,7 @@ pub loop-step-init : goal.loop-step-init
 loop-step-init g c = record {
   going = lemma.begins _ _ _ _ _ _ _ _ _ _ _ _ c.in_ok-table.table c.in_ok-table.ensures.empty.2 (c.in_ok-table.ensures.holds c.args.app.now c.args.state.now);
   same_app = c.of-calls.ensures.app;
+  kept = refl;
 }
 
 pub returns-then-is_empty-clause-serves : goal.returns-then-is_empty-clause-serves
@@ -21,6 +22,7 @@ pub loop-step-preserved : goal.loop-step-preserved
 loop-step-preserved g c = record {
   going = (rw c.loop-step.invariant.same_app at (c.step-intake.ensures.goes_on c.args.limits.now (g.N.Reactor.answers c.args.reactor.now) c.args.teller.now)) c.loop-step.invariant.going;
   same_app = c.step-intake.ensures.same ∙ c.loop-step.invariant.same_app;
+  kept = c.step-intake.ensures.kept ∙ c.loop-step.invariant.kept;
 }
 
 pub returns-clause-serves : goal.returns-clause-serves

@@ -7,4 +7,5 @@ invariant-loop-step g l = record {
   going : Going g.A.Task.AppTask.answers g.U.Pipes.Conn.ConnEnd g.U.Pipes.App.AppEnd g.U.Runner.conn g.U.Runner.began (g.A.Application.answers l.fn.app) g.N.L.Line.state l.fn.limits l.fn.state
       g.K.Teller.tells (g.N.Reactor.answers l.fn.reactor) (g.N.Reactor.answers l.reactor) l.fn.teller l.teller l.table;
   same_app : l.calls.app.now ≡ l.fn.app;
+  kept : g.N.Reactor.kept l.reactor ≡ g.N.Reactor.kept l.fn.reactor;
 }

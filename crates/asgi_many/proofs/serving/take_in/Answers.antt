@@ -10,14 +10,17 @@ returns-in-Ok g c = record {
     lemma.arrives _ _ _ _ _ _ _ limits _ asked _ _ places _ _ c.in-Arrived.newcomer c.in-Arrived.ensures.told c.in-Ok.ensures.limits.0
         (λ came holds. c.in-Ok.ensures.holds app came places holds) sits,
   );
+  kept = c.in-Arrived.ensures.kept;
 }
 
 pub returns-in-NoneNow : goal.returns-in-NoneNow
 returns-in-NoneNow g c = record {
   sits = λ app limits asked places sits. (places, inl refl, lemma.none_arrives _ _ _ _ _ _ _ limits _ asked _ _ places _ c.in-NoneNow.ensures.told sits);
+  kept = c.in-NoneNow.ensures.kept;
 }
 
 pub returns-in-NoneEver : goal.returns-in-NoneEver
 returns-in-NoneEver g c = record {
   sits = λ app limits asked places sits. (places, inl refl, lemma.none_will_arrive _ _ _ _ _ _ _ limits _ asked _ _ places _ c.in-NoneEver.ensures.told sits);
+  kept = c.in-NoneEver.ensures.kept;
 }
