@@ -81,12 +81,25 @@ impl Held {
         Ok(true)
     }
 
-    /// Nothing waits any more. Its memory is given back.
+    /// Nothing waits any more. Its memory is given back if it is much, and else kept for what follows.
     fn clear(&mut self)
         ensures { waiting self.new.buf.items self.new.start ≡ [] }
     {
         self.start = 0;
-        self.buf = Vec::new(self.alloc);
+        self.buf.clear();
+        if self.buf.capacity() > MANY {
+            self.buf = Vec::new(self.alloc);
+        }
+    }
+
+    /// Gives back the memory, unless something waits in it.
+    pub fn let_go(&mut self)
+        ensures { waiting self.new.buf.items self.new.start ≡ waiting self.old.buf.items self.old.start }
+    {
+        if self.is_empty() {
+            self.start = 0;
+            self.buf = Vec::new(self.alloc);
+        }
     }
 
     /// Writes the bytes behind those that wait. What the stream does not take waits too, so all are taken, unless the stream

@@ -82,10 +82,13 @@ impl Polled {
         self.came.replace(0)
     }
 
-    /// Gives back the memory for what is read ahead, unless something is held in it.
+    /// Gives back the memory for what is read ahead and for what waits to be written, unless something is held in it.
     pub fn let_go(&self) {
         if let Ok(mut ahead) = self.ahead.try_borrow_mut() {
             ahead.let_go();
+        }
+        if let Ok(mut held) = self.held.try_borrow_mut() {
+            held.let_go();
         }
     }
 

@@ -72,6 +72,8 @@ pub struct SocketReactor<'a, R: Clock> {
     last_tick: Option<Instant>,
     // The exchanges that wait were looked at.
     last_beat: Option<Instant>,
+    // What time it was after the last wait. The clock is asked once for each.
+    now: Option<Instant>,
     why: Option<io::Error>,
     told: History<Next<PolledLine>>,
 }
@@ -138,6 +140,7 @@ impl<'a, R: Net + Clock> SocketReactor<'a, R> {
             tick: numbers.tick.max(Duration::from_millis(SHORTEST_TICK)),
             last_tick: time_of(rt),
             last_beat: time_of(rt),
+            now: time_of(rt),
             why: None,
             told: History::new(),
         })
@@ -336,15 +339,15 @@ impl<R: Clock> SocketReactor<'_, R> {
         rest
     }
 
-    /// How long it is until so much time has passed since then.
+    /// How long it was until so much time had passed since then, after the last wait.
     fn rest_of(&self, since: Option<Instant>, length: Duration) -> Duration {
         let Some(since) = since else {
             return length;
         };
-        match since.elapsed(self.clock) {
-            Ok(elapsed) => length.saturating_sub(elapsed),
-            Err(_) => length,
-        }
+        let Some(now) = self.now else {
+            return length;
+        };
+        length.saturating_sub(now.duration_since(since))
     }
 
     /// Whether the exchanges that wait are to be looked at.
@@ -362,6 +365,7 @@ impl<R: Clock> SocketReactor<'_, R> {
         let patience = self.patience();
         // After a failed wait, by a signal for example, no event is left.
         let _asked = self.poll.poll(&mut self.events, Some(patience));
+        self.now = time_of(self.clock);
         for event in self.events.iter() {
             let Token(token) = event.token();
             if token == ARRIVALS {
@@ -387,7 +391,7 @@ impl<R: Clock> SocketReactor<'_, R> {
     fn begin_beat(&mut self)
         ensures { (self.new.told ≡ self.old.told) × (self.new.left ≡ self.old.left) × (self.new.why ≡ self.old.why) }
     {
-        self.last_beat = time_of(self.clock);
+        self.last_beat = self.now;
         self.queue.beat();
     }
 
@@ -395,7 +399,7 @@ impl<R: Clock> SocketReactor<'_, R> {
     fn begin_tick(&mut self)
         ensures { (self.new.told ≡ self.old.told) × (self.new.left ≡ self.old.left) × (self.new.why ≡ self.old.why) }
     {
-        self.last_tick = time_of(self.clock);
+        self.last_tick = self.now;
         self.arrived = true;
         self.queue.tick();
     }
