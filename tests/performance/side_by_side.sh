@@ -4,6 +4,7 @@
 #   one    a server in one thread over these crates (`Inline`), which serves one connection after another; it stands in threads.sh
 #   two    `asgi_demo serve PORT COUNT APP 1`: one worker, whose application has a thread of its own (`Beside`)
 #   hyper  Debian's hyper on one thread of tokio; its program stands below
+#   floor  a server in C that makes the calls of the system which seats makes, and almost nothing else (floor.c): where it has a row
 # Part `times`: processor time of the server (user's and system's) and requests a second, so many rounds, each row by turns; of
 # each number the median, and of each ratio the median of the rounds' ratios, with the least and the most. Part `counts`, which
 # no load moves: instructions a request (callgrind, so without the system's), its system calls (strace), and memory. Part
@@ -19,6 +20,7 @@ folder=$(mktemp -d)
 pid=
 trap 'stop; rm -rf "$folder"' EXIT
 gcc -O2 -o "$folder/trips" tests/performance/trips.c
+gcc -O2 -o "$folder/floor" tests/performance/floor.c
 # The C library copies and fills by the same instructions whatever the size, so that a byte counts the same.
 library=glibc.cpu.x86_rep_movsb_threshold=1000000000000:glibc.cpu.x86_rep_stosb_threshold=1000000000000
 library=$library:glibc.cpu.x86_non_temporal_threshold=1000000000
@@ -51,6 +53,7 @@ start() {
     one) "$@" "$one" serve "$port" 1000 "$app" >/dev/null 2>"$folder/errors" & ;;
     two) "$@" "$program" serve "$port" 1000 "$app" 1 >/dev/null 2>"$folder/errors" & ;;
     hyper) "$@" "$hyper" "$port" >/dev/null 2>"$folder/errors" & ;;
+    floor) "$@" "$folder/floor" "$port" 0 >/dev/null 2>"$folder/errors" & ;;
   esac
   pid=$!
   for _ in {1..3000}; do
@@ -78,8 +81,14 @@ trips() { timeout 300 "$folder/trips" "$port" "$1" "$2"; }
 # How many requests a round trip has.
 requests_in() { case $1 in hello:*) echo "${1#hello:}" ;; *) echo 1 ;; esac; }
 
-# Which servers have a row: hyper has no sessions.
-servers_of() { case $1 in wsecho) echo seats one two ;; *) echo seats hyper one two ;; esac; }
+# Which servers have a row: hyper has no sessions, and floor neither sessions nor chunks, nor does it close a connection.
+servers_of() {
+  case $1 in
+    ws:*) echo seats one two ;;
+    connect | echo:*:*) echo seats hyper one two ;;
+    *) echo seats hyper floor one two ;;
+  esac
+}
 
 times() {
   local round at name app what count server before many
@@ -87,7 +96,7 @@ times() {
     for at in "${!rows[@]}"; do
       IFS='|' read -r name app what count <<<"${rows[at]}"
       many=$(requests_in "$what")
-      for server in $(servers_of "$app"); do
+      for server in $(servers_of "$what"); do
         start "$server" "$app"
         before=$(nanoseconds)
         trips "$what" "$count" >"$folder/trip"
@@ -115,12 +124,13 @@ def ratio(name, server, other, which):
     of = [a / b for a, b in zip(all_of(name, server, which), all_of(name, other, which))]
     return f"{statistics.median(of):.2f} ({min(of):.2f} to {max(of):.2f})" if of else ""
 
-print("| microseconds of a processor, requests a second | `seats` | hyper | time, of hyper's | rate, of hyper's | `one` | time, of hyper's | `two`: time, of `one`'s |")
-print("|---|---|---|---|---|---|---|---|")
+print("| microseconds of a processor, requests a second | `seats` | hyper | time, of hyper's | rate, of hyper's | `floor`: time, of hyper's | `one` | time, of hyper's | `two`: time, of `one`'s |")
+print("|---|---|---|---|---|---|---|---|---|")
 for name in names:
     of_hyper = [ratio(name, "seats", "hyper", which) for which in (0, 1)]
     of_one = [ratio(name, "one", "hyper", 0), ratio(name, "two", "one", 0)]
-    print(f"| {' | '.join([name, numbers(name, 'seats'), numbers(name, 'hyper'), *of_hyper, numbers(name, 'one'), *of_one])} |")
+    of_floor = ratio(name, "floor", "hyper", 0)
+    print(f"| {' | '.join([name, numbers(name, 'seats'), numbers(name, 'hyper'), *of_hyper, of_floor, numbers(name, 'one'), *of_one])} |")
 P
 }
 
