@@ -1,6 +1,6 @@
 //! What a session is told by a line whose server goes away, and what its client is (RFC 6455, sections 5.5.1 and 7.4.1).
 use asgi_leaving::LeavingLine;
-use asgi_ws::{Got, Line, Msg, Put, Script, ScriptRead, SentMessage};
+use asgi_ws::{Got, Line, Messages, Msg, Put, Script, ScriptRead, SentMessage};
 use std::alloc::{AllocError, Global};
 use std::collections::VecDeque;
 use std::test::Fail;
