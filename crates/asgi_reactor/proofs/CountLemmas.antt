@@ -5,13 +5,10 @@ use Rattle.asgi_many.specs.declared.reactor.Next.{Next}
 use Rattle.asgi_many.specs.declared.reactor.Next.TheVariants.{Arrived, NoneNow, NoneEver}
 use Rattle.asgi_reactor.specs.Accepting.{IfArrived, IsNone, in_all}
 
-one_more : (n k : ℕ) → (n + 1) + k ≡ n + (k + 1)
-one_more n k = omega arith
-
 -- one that came takes one of those that are left, and no other answer does
-pub asked_one : {L : Type 0} (answers : List (Next L)) (answer : Next L) (old new : ℕ) → (IfArrived answer (λ _. old ≡ new + 1)) → (IsNone answer → new ≡ old)
+pub asked_one : {L P : Type 0} (answers : List (Next L)) (answer : Next L) (old new : ℕ) → IfArrived answer (λ _. (old ≡ new + 1) × P) → (IsNone answer → new ≡ old)
     → in_all (answers ++ answer ∷ []) new ≡ in_all answers old
-asked_one [] (Arrived one) old new some none = omega (arith, some)
+asked_one [] (Arrived one) old new some none = omega (arith, some.0)
 asked_one [] NoneNow old new some none = none tt
 asked_one [] NoneEver old new some none = none tt
 asked_one (Arrived first ∷ answers) answer old new some none = ap (λ n. n + 1) (asked_one answers answer old new some none)

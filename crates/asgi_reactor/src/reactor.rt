@@ -461,6 +461,7 @@ impl<R: Clock> Reactor for SocketReactor<'_, R> {
         ensures told { self.new.told.items ≡ self.old.told.items ++ result ∷ [] }
         ensures some { IfArrived result (λ _. (self.old.left ≡ self.new.left + 1) × (self.new.why ≡ None)) }
         ensures none { IsNone result → self.new.left ≡ self.old.left }
+        ensures kept { in_all self.new.told.items self.new.left ≡ in_all self.old.told.items self.old.left }
     {
         let next = self.accept(at);
         self.told = History::with(&self.told, &next);
