@@ -73,7 +73,7 @@ pub struct SocketReactor<'a, R: Clock> {
     // The exchanges that wait were looked at.
     last_beat: Option<Instant>,
     // What time it was after the last wait. The clock is asked once for each.
-    now: Option<Instant>,
+    time: Option<Instant>,
     why: Option<io::Error>,
     told: History<Next<PolledLine>>,
 }
@@ -140,7 +140,7 @@ impl<'a, R: Net + Clock> SocketReactor<'a, R> {
             tick: numbers.tick.max(Duration::from_millis(SHORTEST_TICK)),
             last_tick: time_of(rt),
             last_beat: time_of(rt),
-            now: time_of(rt),
+            time: time_of(rt),
             why: None,
             told: History::new(),
         })
@@ -344,7 +344,7 @@ impl<R: Clock> SocketReactor<'_, R> {
         let Some(since) = since else {
             return length;
         };
-        let Some(now) = self.now else {
+        let Some(now) = self.time else {
             return length;
         };
         length.saturating_sub(now.duration_since(since))
@@ -365,7 +365,7 @@ impl<R: Clock> SocketReactor<'_, R> {
         let patience = self.patience();
         // After a failed wait, by a signal for example, no event is left.
         let _asked = self.poll.poll(&mut self.events, Some(patience));
-        self.now = time_of(self.clock);
+        self.time = time_of(self.clock);
         for event in self.events.iter() {
             let Token(token) = event.token();
             if token == ARRIVALS {
@@ -391,7 +391,7 @@ impl<R: Clock> SocketReactor<'_, R> {
     fn begin_beat(&mut self)
         ensures { (self.new.told ≡ self.old.told) × (self.new.left ≡ self.old.left) × (self.new.why ≡ self.old.why) }
     {
-        self.last_beat = self.now;
+        self.last_beat = self.time;
         self.queue.beat();
     }
 
@@ -399,7 +399,7 @@ impl<R: Clock> SocketReactor<'_, R> {
     fn begin_tick(&mut self)
         ensures { (self.new.told ≡ self.old.told) × (self.new.left ≡ self.old.left) × (self.new.why ≡ self.old.why) }
     {
-        self.last_tick = self.now;
+        self.last_tick = self.time;
         self.arrived = true;
         self.queue.tick();
     }
