@@ -48,8 +48,8 @@ same_around part asked_old asked_new was is asked same = ap₂ (λ a t. around a
 
 -- at most as many came as were left at first, if none had come before
 pub few_came : {L : Type 0} (was asked : List (Next L)) (left_old left_new : ℕ) → was ≡ [] → in_all asked left_new ≡ in_all was left_old → length (came_in asked) ≤ left_old
-few_came was asked left_old left_new none same =
-    let from_none : in_all was left_old ≡ left_old = ap (λ l. in_all l left_old) none in
+few_came {L} was asked left_old left_new none same =
+    let from_none : in_all was left_old ≡ in_all {L = L} [] left_old = ap (λ (l : List (Next L)). in_all l left_old) none in
     omega (arith, same, from_none)
 
 -- what a server in seats did that had been asked for nothing before
