@@ -8,5 +8,5 @@ pub returns : goal.returns
 returns g c =
     let (seconds, in_seconds, serves) = c.serve_in_seats-ending.ensures.serves in (
       ran_seats _ _ _ _ _ _ _ _ _ _ _ _ _ c.requires in_seconds serves (subst (λ w. IfSome w (λ e. c.error_of-why.result ≡ e)) c.why.ensures c.error_of-why.ensures) c.result_of.ensures,
-      few_came c.args.reactor.told.items _ c.args.reactor.left _ c.requires c.serve_in_seats-ending.ensures.kept,
+      few_came c.args.reactor.told.items c.serve_in_seats-ending.new.reactor.told.items c.args.reactor.left c.serve_in_seats-ending.new.reactor.left c.requires c.serve_in_seats-ending.ensures.kept,
     )
