@@ -16,7 +16,7 @@ use Rattle.asgi_reactor.specs.Accepting.{in_all}
 use Rattle.nomtsage.specs.declared.ending.Ending.{Ending}
 use Rattle.nomtsage.specs.declared.fault.ServeError.{ServeError}
 use Rattle.nomtsage.specs.Running.{IsResultOf}
-use Rattle.nomtsage.specs.Seats.{InSeconds, RanSeats, ServesSeats, of_reports}
+use Rattle.nomtsage.specs.Seats.{InSeconds, RanFew, ServesSeats, of_reports}
 use Rattle.nomtsage.specs.Serving.{LivesOn, around}
 
 module _ {K T : Type 0} (tells : K → K → ℕ → Report → Type 0) (part : T → K) where
@@ -47,25 +47,29 @@ pub same_around : {Q K T : Type 0} (part : T → K) (asked_old asked_new : List 
 same_around part asked_old asked_new was is asked same = ap₂ (λ a t. around a (part t)) asked same
 
 -- at most as many came as were left at first, if none had come before
-pub few_came : {L : Type 0} (was asked : List (Next L)) (left_old left_new : ℕ) → was ≡ [] → in_all asked left_new ≡ in_all was left_old → length (came_in asked) ≤ left_old
+few_came : {L : Type 0} (was asked : List (Next L)) (left_old left_new : ℕ) → was ≡ [] → in_all asked left_new ≡ in_all was left_old → length (came_in asked) ≤ left_old
 few_came {L} was asked left_old left_new none same =
     let from_none : in_all was left_old ≡ in_all {L = L} [] left_old = ap (λ (l : List (Next L)). in_all l left_old) none in
     omega (arith, same, from_none)
 
 -- what a server in seats did that had been asked for nothing before
-pub ran_seats : {L K : Type 0} (line_state : L → LineState) (tells : K → K → ℕ → Report → Type 0) (answers : Promise) (limits seconds : Limits)
-    (was asked : List (Next L)) (teller told : K) (why : Option Error) (ends : Ending) (given : Error) (result : Result (Unit {0}) ServeError) → was ≡ []
+pub ran_few : {L K : Type 0} (line_state : L → LineState) (tells : K → K → ℕ → Report → Type 0) (answers : Promise) (limits seconds : Limits)
+    (was asked : List (Next L)) (left_old left_new : ℕ) (teller told : K) (why : Option Error) (ends : Ending) (given : Error) (result : Result (Unit {0}) ServeError) → was ≡ []
     → InSeconds limits seconds → LivesOn (ServesSeats line_state tells answers seconds why) answers limits (around was teller) (around asked told) ends
-    → IfSome why (λ e. given ≡ e) → IsResultOf ends given result → RanSeats line_state tells answers limits teller result
-ran_seats {L} line_state tells answers limits seconds was asked teller told why ends given result none in_seconds serves is_why is = record {
-  asked = asked;
-  told = told;
-  why = why;
-  seconds = seconds;
-  in_seconds = in_seconds;
-  ends = ends;
-  serves = subst (λ (l : List (Next L)). LivesOn (ServesSeats line_state tells answers seconds why) answers limits (around l teller) (around asked told) ends) none serves;
-  given = given;
-  is_why = is_why;
-  result_is = is;
-}
+    → in_all asked left_new ≡ in_all was left_old
+    → IfSome why (λ e. given ≡ e) → IsResultOf ends given result → RanFew line_state tells answers limits left_old teller result
+ran_few {L} line_state tells answers limits seconds was asked left_old left_new teller told why ends given result none in_seconds serves kept is_why is = (
+  record {
+    asked = asked;
+    told = told;
+    why = why;
+    seconds = seconds;
+    in_seconds = in_seconds;
+    ends = ends;
+    serves = subst (λ (l : List (Next L)). LivesOn (ServesSeats line_state tells answers seconds why) answers limits (around l teller) (around asked told) ends) none serves;
+    given = given;
+    is_why = is_why;
+    result_is = is;
+  },
+  few_came was asked left_old left_new none kept,
+)
