@@ -114,7 +114,8 @@ build() {
   mkdir -p "$folder/crates/one_thread/src"
   for crate in $below; do
     mkdir "$folder/crates/$crate"
-    cp -a "crates/$crate/src" "crates/$crate/specs" "crates/$crate/proofs" "$folder/crates/$crate"
+    cp -a "crates/$crate/src" "crates/$crate/specs" "$folder/crates/$crate"
+    [ ! -d "crates/$crate/proofs" ] || cp -a "crates/$crate/proofs" "$folder/crates/$crate"
   done
   cp HANDLES "$folder"
   peer_text >"$folder/crates/one_thread/src/main.rt"

@@ -120,7 +120,8 @@ build() {
   mkdir -p "$folder/crates/sharer/src"
   for crate in asgi_io asgi_desk asgi_crew; do
     mkdir "$folder/crates/$crate"
-    cp -a "crates/$crate/src" "crates/$crate/specs" "crates/$crate/proofs" "$folder/crates/$crate"
+    cp -a "crates/$crate/src" "crates/$crate/specs" "$folder/crates/$crate"
+    [ ! -d "crates/$crate/proofs" ] || cp -a "crates/$crate/proofs" "$folder/crates/$crate"
   done
   cp HANDLES "$folder"
   sharer_text >"$folder/crates/sharer/src/main.rt"
