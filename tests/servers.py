@@ -487,7 +487,7 @@ class Library(unittest.TestCase):
                 return [(session.close_code, session.close_reason) for session in sessions]
 
         for app in ("seatsends", "tablesends"):
-            with self.subTest(app=app), Own(app, count=1000) as own:
+            with self.subTest(app=app), Own(app, count=1000, workers=8) as own:
                 port = own.port()
                 began = time.monotonic()
                 ended = asyncio.run(asyncio.wait_for(talk(port), SECONDS))

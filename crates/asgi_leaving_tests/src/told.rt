@@ -126,10 +126,10 @@ fn reads_held(line: &mut LeavingLine<Script>, row: &Row) -> usize {
 }
 
 fn closes_in(handed: &[SentMessage]) -> usize {
-    let mut many = 0;
+    let mut many = 0_usize;
     for message in handed {
         if let SentMessage::Close(1001, _) = message {
-            many += 1;
+            many = many.saturating_add(1);
         }
     }
     many
