@@ -1,6 +1,6 @@
 //! A server over a reactor that names seats in an order that a seed draws, also free ones and ones that are not there: each
 //! connection is served as it is alone, and told of once.
-ghost use Rattle.std.specs.Prelude.{◌≡◌, ◌++◌, ◌∷◌, [], Unit, tt};
+ghost use Rattle.std.specs.Prelude.{◌≡◌, ◌++◌, ◌∷◌, []};
 
 use crate::drawn::INPUTS;
 use crate::lines::{Input, Line, alone, comers_of};
