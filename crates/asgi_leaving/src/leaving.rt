@@ -59,17 +59,20 @@ impl<L> LeavingLine<L> {
 }
 
 impl<L: Messages> LeavingLine<L> {
-    /// Tells the client of a session that was told that its server goes away: a close with 1001. It is for a session that has
-    /// ended, since nothing is sent after a close (RFC 6455, section 5.5.1). One that the application or the client has closed
-    /// gets no other: the line below refuses it.
+    /// Tells the client of a session that was told that its server goes away: a close with 1001, which is one more call of the
+    /// session. It is for a session that has ended, since nothing is sent after a close (RFC 6455, section 5.5.1). One that the
+    /// application or the client has closed gets no other: the message layer below sends a close once, and nothing after it.
     pub fn close_session(&mut self)
-        ensures told { IsTrue self.old.has_told → (put : Put) × (L.calls self.new.line ≡ L.calls self.old.line ++ call.Send (item.Close 1001 []) put ∷ []) }
+        ensures told { IsTrue self.old.has_told → (put : Put) × (L.calls self.new.line ≡ L.calls self.old.line ++ call.Send (item.Close 1001 []) put ∷ [])
+            × (told_calls self.new.changed.items (L.calls self.new.line) ≡ told_calls self.old.changed.items (L.calls self.old.line) ++ call.Send (item.Close 1001 []) put ∷ []) }
         ensures untold { IsFalse self.old.has_told → self.new ≡ self.old }
+        ensures stays { self.new ≡ record self.old { line = self.new.line; changed = self.new.changed } }
     {
         if !self.has_told {
             return;
         }
         let _put = self.line.send_close(GOING_AWAY, no_reason());
+        self.count(false);
     }
 
     /// What the session is told, where this was found.
