@@ -1,5 +1,6 @@
 pub mod EndLemmas
 pub mod ListLemmas
+pub mod MoveLemmas
 pub mod SeatLemmas
 pub mod ServingLemmas
 pub mod StandingLemmas

@@ -2,6 +2,7 @@
 use Rattle.std.proofs.Common.{◌≡◌, ◌≢◌, ℕ, zero, suc, ◌+◌, List, [], ◌∷◌, ◌++◌, Option, Some, None, is_some, cond, count_by, refl, sym, ap, ◌∙◌, arith, slice_get, length-append, subst}
 use Rattle.std.specs.Prelude.{slice_set, slice_index_or}
 use Rattle.std.proofs.lemmas.List.Sums.{sum_by-cons}
+use Rattle.std.proofs.lemmas.Option.{none-some}
 use Rattle.asgi_types.specs.declared.end_kind.EndKind.{EndKind}
 use Rattle.asgi_types.specs.declared.incoming.Incoming.{Incoming}
 use Rattle.asgi_types.specs.declared.limits.Limits.{Limits}
@@ -31,6 +32,19 @@ nobody_in (Some seat ∷ rest) none i = absurd (omega (arith, none, sum_by-cons 
 -- where no value is, no key has one
 pub nobody : {S : Type 0} (s : Slab S) → slab_len s ≡ 0 → (i : ℕ) → get s i ≡ None
 nobody s none = nobody_in s.slots none
+
+stays_in : {S : Type 0} (slots : List (Option S)) (i : ℕ) (was is : S) → slice_index_or slots i None ≡ Some was
+    → count_by is_some (slice_set slots i (Some is)) ≡ count_by is_some slots
+stays_in [] i was is there = refl
+stays_in (None ∷ rest) zero was is there = absurd (none-some was there)
+stays_in (Some one ∷ rest) zero was is there =
+    omega (arith, sum_by-cons (λ o. cond (is_some o) 1 0) (Some one) rest, sum_by-cons (λ o. cond (is_some o) 1 0) (Some is) rest)
+stays_in (slot ∷ rest) (suc i) was is there =
+    omega (arith, stays_in rest i was is there, sum_by-cons (λ o. cond (is_some o) 1 0) slot rest, sum_by-cons (λ o. cond (is_some o) 1 0) slot (slice_set rest i (Some is)))
+
+-- as many sit there
+pub stays : {S : Type 0} (s : Slab S) (i : ℕ) (was is : S) → get s i ≡ Some was → slab_len (with_value s i is) ≡ slab_len s
+stays s i was is there = stays_in s.slots i was is there
 
 -- a value is written where one was
 pub writes : {S : Type 0} (s : Slab S) (i : ℕ) (was is : S) → get s i ≡ Some was → Updates s (with_value s i is) i (Some is)

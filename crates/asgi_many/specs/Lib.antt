@@ -1,3 +1,4 @@
+pub mod Moves
 pub mod Seats
 pub mod Serving
 pub mod Standing

@@ -1,5 +1,5 @@
 -- What a turn of a named seat did.
-use Rattle.std.specs.Prelude.{◌≡◌, ⊤, List, Option, Some, None, IsSomeAnd, slice_set}
+use Rattle.std.specs.Prelude.{◌≡◌, ⊤, ℕ, List, Option, Some, None, IsSomeAnd, slice_set}
 use Rattle.asgi_conn.specs.declared.connection.Step.{Step}
 use Rattle.asgi_conn.specs.declared.connection.Step.TheVariants as step
 use Rattle.asgi_conn.specs.Standing.{IsReportOf, TakesOne}
@@ -16,6 +16,13 @@ ended_after NoOne ended = ended
 ended_after Moved ended = ended
 ended_after Idle ended = ended
 ended_after (Over end) ended = slice_set ended end.number (Some end)
+
+-- how many seats were freed
+abbrev pub freed_by : {L : Type 0} → Turned L → ℕ
+freed_by NoOne = 0
+freed_by Moved = 0
+freed_by Idle = 0
+freed_by (Over end) = 1
 
 -- this holds of the end, if there is one
 abbrev pub IfOver : {L : Type 0} → Turned L → (Ended L → Type 0) → Type 0

@@ -1,6 +1,9 @@
 //! Where connections come from, and which of them may go on.
 ghost use Rattle.std.specs.Prelude.{◌≡◌, ◌++◌, ◌∷◌, [], List};
 ghost use Rattle.asgi_many.specs.declared.reactor.Next.{Next};
+ghost use Rattle.asgi_many.specs.declared.reactor.SeatMove.{SeatMove};
+ghost use Rattle.asgi_many.specs.declared.reactor.SeatMove.TheVariants.{Freed};
+ghost use Rattle.asgi_many.specs.Moves.{taken_by};
 
 use crate::seat::Newcomer;
 use asgi_conn::Rest;
@@ -28,6 +31,15 @@ pub enum Ready {
     Arrivals,
 }
 
+/// What becomes of a seat.
+#[derive(Clone, Copy, Debug, PartialEq, Eq)]
+pub enum SeatMove {
+    /// A newcomer was given for it.
+    Taken,
+    /// The line of the connection in it was given back.
+    Freed,
+}
+
 /// Gives connections, and says which of them may go on. Of that it promises nothing: it may name any seat at any time, also
 /// one that is free or not there.
 pub trait Reactor {
@@ -37,6 +49,9 @@ pub trait Reactor {
     // How each call of `try_next` was answered, in order.
     ghost answers: { Self → List (Next Self.L) };
 
+    // What became of seats, in order.
+    ghost moves: { Self → List SeatMove };
+
     // What each call keeps: of a reactor with a limit, say, how many connections it has given and will give at the most.
     ghost Kept: { Type 0 };
 
@@ -45,31 +60,37 @@ pub trait Reactor {
     /// The next connection, which takes this seat. It does not wait.
     fn try_next(&mut self, at: usize) -> Next<Self::L>
         ensures told { answers self.new ≡ answers self.old ++ result ∷ [] }
+        ensures moves { moves self.new ≡ moves self.old ++ taken_by result }
         ensures kept { kept self.new ≡ kept self.old };
 
     /// What may be done next. It may wait for it.
     fn wait(&mut self) -> Ready
         ensures told { answers self.new ≡ answers self.old }
+        ensures moves { moves self.new ≡ moves self.old }
         ensures kept { kept self.new ≡ kept self.old };
 
     /// Whether the connection in this seat may take a turn now. Not while the end of a text waits to leave, for example.
     fn may_go_on(&mut self, at: usize, line: &Self::L) -> bool
         ensures told { answers self.new ≡ answers self.old }
+        ensures moves { moves self.new ≡ moves self.old }
         ensures kept { kept self.new ≡ kept self.old };
 
     /// The connection in this seat moved something in its turn, and may move more at once.
     fn again(&mut self, at: usize)
         ensures told { answers self.new ≡ answers self.old }
+        ensures moves { moves self.new ≡ moves self.old }
         ensures kept { kept self.new ≡ kept self.old };
 
     /// The connection in this seat moved nothing in its turn, and rests here: what was written for it is not to wait any longer. In
     /// an exchange its task may wait for something else than its line.
     fn rests(&mut self, at: usize, line: &Self::L, rest: Rest)
         ensures told { answers self.new ≡ answers self.old }
+        ensures moves { moves self.new ≡ moves self.old }
         ensures kept { kept self.new ≡ kept self.old };
 
     /// The connection in this seat has ended, and the seat is free. Its line is closed once what was written has left.
     fn close(&mut self, at: usize, line: Self::L)
         ensures told { answers self.new ≡ answers self.old }
+        ensures moves { moves self.new ≡ moves self.old ++ Freed ∷ [] }
         ensures kept { kept self.new ≡ kept self.old };
 }

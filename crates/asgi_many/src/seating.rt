@@ -7,7 +7,7 @@ ghost use Rattle.asgi_conn.specs.Standing.{IsReportOf, StandsAt};
 ghost use Rattle.asgi_many.specs.declared.seat.Ended.{Ended};
 ghost use Rattle.asgi_many.specs.declared.seat.Newcomer.{Newcomer};
 ghost use Rattle.asgi_many.specs.Standing.{Holds, IsEmpty, IsFull, IsServed};
-ghost use Rattle.asgi_many.specs.Turns.{IfOver, LooksAt, TurnsSeat, ended_after};
+ghost use Rattle.asgi_many.specs.Turns.{IfOver, LooksAt, TurnsSeat, ended_after, freed_by};
 
 use crate::seat::{Cause, Ended, Newcomer, Seat};
 use crate::table::{Table, Turned};
@@ -125,6 +125,7 @@ impl<X, L: Line> Table<X, L> {
         ensures at { IfOk result (λ at. (at ≡ self.old.seats.vacant_key) × (at < self.new.seats.capacity) × (get self.old.seats at ≡ None)
             × IsSomeAnd (get self.new.seats at) (λ seat. (seat.line ≡ newcomer.line) × (seat.number ≡ self.old.came))) }
         ensures others { IfOk result (λ at. (other : ℕ) → other ≢ at → get self.new.seats other ≡ get self.old.seats other) }
+        ensures sits { IfOk result (λ at. slab_len self.new.seats ≡ slab_len self.old.seats + 1) }
         ensures back { IfErr result (λ back. (back ≡ newcomer) × (self.new ≡ self.old)) }
         ensures refuses { IsErr result → IsFull self.old ⊎ (self.old.came ≡ 2 ^ 64 - 1) }
         ensures limits { (self.new.limits ≡ self.old.limits) × (self.new.places ≡ self.old.places) }
@@ -163,6 +164,7 @@ impl<X, L: Line> Table<X, L> {
             → (slice_get ended end.number ≡ Some None)
             × (one : Newcomer L) × (slice_get came end.number ≡ Some one) × IsServed (A.answers calls.old.app.now) L.state self.old.limits state.now one end) }
         ensures turned { TurnsSeat cause result (get self.old.seats at) (get self.new.seats at) }
+        ensures sits { slab_len self.old.seats ≡ slab_len self.new.seats + freed_by result }
         ensures others { (other : ℕ) → other ≢ at → get self.new.seats other ≡ get self.old.seats other }
         ensures limits { (self.new.limits ≡ self.old.limits) × (self.new.places ≡ self.old.places) }
         ensures same { calls.new.app.now ≡ calls.old.app.now }
@@ -196,6 +198,7 @@ impl<X, L: Line> Table<X, L> {
             → Holds A.Task.answers U.Pipes.Conn.ConnEnd U.Pipes.App.AppEnd U.conn U.began (A.answers calls.old.app.now) L.state state.now came self.old ended
             → Holds A.Task.answers U.Pipes.Conn.ConnEnd U.Pipes.App.AppEnd U.conn U.began (A.answers calls.old.app.now) L.state state.now came self.new ended }
         ensures looked { LooksAt cause result (get self.old.seats at) (get self.new.seats at) }
+        ensures sits { slab_len self.new.seats ≡ slab_len self.old.seats }
         ensures others { (other : ℕ) → other ≢ at → get self.new.seats other ≡ get self.old.seats other }
         ensures limits { (self.new.limits ≡ self.old.limits) × (self.new.places ≡ self.old.places) }
         ensures same { calls.new.app.now ≡ calls.old.app.now }
@@ -213,6 +216,7 @@ impl<X, L: Line> Table<X, L> {
         ensures end { IsSomeAnd (get self.old.seats at) (λ seat. (result.number ≡ seat.number) × (result.report ≡ report)
             × (result.pauses ≡ seat.pause.count) × (result.line ≡ seat.line) × (result.client ≡ seat.client)) }
         ensures free { get self.new.seats at ≡ None }
+        ensures sits { slab_len self.old.seats ≡ slab_len self.new.seats + 1 }
         ensures others { (other : ℕ) → other ≢ at → get self.new.seats other ≡ get self.old.seats other }
         ensures same { (self.new.limits ≡ self.old.limits) × (self.new.places ≡ self.old.places) × (self.new.came ≡ self.old.came) }
     {

@@ -1,6 +1,9 @@
 //! A server of many connections in one thread.
 ghost use Rattle.std.specs.Prelude.{◌≡◌, ◌+◌, ◌-◌, ◌^◌, ◌<◌, ◌++◌, ◌∷◌, [], ℕ, List, Option, IfOk, IsErr, IsTrue, slice_get};
 ghost use Rattle.asgi_many.specs.declared.seat.Ended.{Ended};
+ghost use Rattle.slab.specs.Slab.{slab_len};
+ghost use Rattle.asgi_many.specs.declared.reactor.SeatMove.TheVariants.{Freed};
+ghost use Rattle.asgi_many.specs.Moves.{KeepsSeats, Shifts};
 ghost use Rattle.asgi_many.specs.Standing.{IsFull};
 ghost use Rattle.asgi_many.specs.Serving.{Adds, Going, ServesMany, Sits, departure_of};
 
@@ -48,7 +51,8 @@ pub fn serve_many<
 ) -> Result<Served, AllocError>
     ensures serves { IfOk result (λ how. ServesMany K.tells (A.answers app.now) N.L.state limits.now state.now (N.answers reactor.old) (N.answers reactor.new)
         teller.old teller.new how) }
-    ensures no_memory { IsErr result → (N.answers reactor.new ≡ N.answers reactor.old) × (teller.new ≡ teller.old) }
+    ensures seats { IfOk result (λ how. KeepsSeats places (N.moves reactor.old) (N.moves reactor.new) how) }
+    ensures no_memory { IsErr result → (N.answers reactor.new ≡ N.answers reactor.old) × (N.moves reactor.new ≡ N.moves reactor.old) × (teller.new ≡ teller.old) }
     ensures kept { N.kept reactor.new ≡ N.kept reactor.old }
 {
     let mut table = Table::new::<A, U>(alloc, limits, places)?;
@@ -90,6 +94,8 @@ fn step<
         → Going A.Task.answers U.Pipes.Conn.ConnEnd U.Pipes.App.AppEnd U.conn U.began (A.answers calls.old.app.now) N.L.state limits state.now K.tells
         asked (N.answers reactor.new) told teller.new table.new }
     ensures same { calls.new.app.now ≡ calls.old.app.now }
+    ensures seats { Shifts table.old.places (N.moves reactor.old) (N.moves reactor.new) (slab_len table.old.seats) (slab_len table.new.seats) }
+    ensures places { table.new.places ≡ table.old.places }
     ensures kept { N.kept reactor.new ≡ N.kept reactor.old }
 {
     if intake.asks() && table.has_seat() {
@@ -121,6 +127,8 @@ fn take_in<X: Drop, A: Application, N: Reactor, U: Runner<A::Task, Exchange = X>
         → Sits A.Task.answers U.Pipes.Conn.ConnEnd U.Pipes.App.AppEnd U.conn U.began (A.answers app) N.L.state limits state.now asked (N.answers reactor.old) places table.old
         → (more : List (Option (Ended N.L))) × Adds places more
         × Sits A.Task.answers U.Pipes.Conn.ConnEnd U.Pipes.App.AppEnd U.conn U.began (A.answers app) N.L.state limits state.now asked (N.answers reactor.new) more table.new }
+    ensures seats { Shifts table.old.places (N.moves reactor.old) (N.moves reactor.new) (slab_len table.old.seats) (slab_len table.new.seats) }
+    ensures places { table.new.places ≡ table.old.places }
     ensures kept { N.kept reactor.new ≡ N.kept reactor.old }
 {
     let at = table.next_seat();
@@ -162,6 +170,8 @@ fn go_on<
         → Going A.Task.answers U.Pipes.Conn.ConnEnd U.Pipes.App.AppEnd U.conn U.began (A.answers calls.old.app.now) N.L.state limits state.now K.tells
         asked (N.answers reactor.new) told teller.new table.new }
     ensures same { calls.new.app.now ≡ calls.old.app.now }
+    ensures seats { Shifts table.old.places (N.moves reactor.old) (N.moves reactor.new) (slab_len table.old.seats) (slab_len table.new.seats) }
+    ensures places { table.new.places ≡ table.old.places }
     ensures kept { N.kept reactor.new ≡ N.kept reactor.old }
 {
     let Some(line) = table.line(at) else {
@@ -206,6 +216,8 @@ fn leave<
         → Going A.Task.answers U.Pipes.Conn.ConnEnd U.Pipes.App.AppEnd U.conn U.began (A.answers calls.old.app.now) N.L.state limits state.now K.tells
         asked (N.answers reactor.new) told teller.new table.new }
     ensures same { calls.new.app.now ≡ calls.old.app.now }
+    ensures seats { Shifts table.old.places (N.moves reactor.old) (N.moves reactor.new) (slab_len table.old.seats) (slab_len table.new.seats) }
+    ensures places { table.new.places ≡ table.old.places }
     ensures kept { N.kept reactor.new ≡ N.kept reactor.old }
 {
     match table.turn(at, cause, state, calls, runner) {
@@ -219,6 +231,7 @@ fn leave<
 /// The connection in this seat waits, and what it wrote leaves.
 fn rests<X, N: Reactor>(table: &Table<X, N::L>, at: usize, reactor: &mut N)
     ensures told { N.answers reactor.new ≡ N.answers reactor.old }
+    ensures moves { N.moves reactor.new ≡ N.moves reactor.old }
     ensures kept { N.kept reactor.new ≡ N.kept reactor.old }
 {
     let Some(line) = table.line(at) else {
@@ -240,6 +253,7 @@ fn over<N: Reactor, K: Teller<Departure>>(
     requires { end.number < 2 ^ 64 - 1 }
     ensures told { K.tells teller.old teller.new (end.number + 1) (departure_of end) }
     ensures same { N.answers reactor.new ≡ N.answers reactor.old }
+    ensures moves { N.moves reactor.new ≡ N.moves reactor.old ++ Freed ∷ [] }
     ensures kept { N.kept reactor.new ≡ N.kept reactor.old }
 {
     let Ended {

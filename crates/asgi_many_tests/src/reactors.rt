@@ -10,7 +10,7 @@ use asgi_conn::{Host, Inline};
 use asgi_fakes::text_of;
 use asgi_io::History;
 use asgi_many::{
-    Departure, Newcomer, Next, Reactor, Ready, Report, Rest, Served, Teller, serve_many,
+    Departure, Newcomer, Next, Reactor, Ready, Report, Rest, SeatMove, Served, Teller, serve_many,
 };
 use asgi_types::{Limits, State};
 use futures::task::{Doorbell, Solo};
@@ -30,6 +30,7 @@ struct Drawn {
     /// How often it was asked for a connection.
     asked: u64,
     told: History<Next<Line>>,
+    moves: History<SeatMove>,
 }
 
 impl Drawn {
@@ -42,11 +43,12 @@ impl Drawn {
             closed: Vec::new(rt.alloc()),
             asked: 0,
             told: History::new(),
+            moves: History::new(),
         })
     }
 
     fn next(&mut self) -> Next<Line>
-        ensures { self.new.told ≡ self.old.told }
+        ensures { (self.new.told ≡ self.old.told) × (self.new.moves ≡ self.old.moves) }
     {
         self.asked = self.asked.saturating_add(1);
         if self.draws.draw() % 3 == 0 {
@@ -64,6 +66,8 @@ impl Reactor for Drawn {
 
     ghost answers = { λ r. r.told.items };
 
+    ghost moves = { λ r. r.moves.items };
+
     ghost Kept = { Unit {0} };
 
     ghost kept = { λ _. tt };
@@ -71,6 +75,9 @@ impl Reactor for Drawn {
     fn try_next(&mut self, _at: usize) -> Next<Line> {
         let next = self.next();
         self.told = History::with(&self.told, &next);
+        if let Next::Arrived(_newcomer) = &next {
+            self.moves = History::with(&self.moves, &SeatMove::Taken);
+        }
         next
     }
 
@@ -92,6 +99,7 @@ impl Reactor for Drawn {
 
     fn close(&mut self, _at: usize, line: Line) {
         let _kept = self.closed.push(line);
+        self.moves = History::with(&self.moves, &SeatMove::Freed);
     }
 }
 

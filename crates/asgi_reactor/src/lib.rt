@@ -14,7 +14,9 @@ mod quota;
 mod reactor;
 mod thread;
 
-pub use asgi_many::{Departure, Next, Reactor, Ready, Rest, Served, Standing, Teller, serve_many};
+pub use asgi_many::{
+    Departure, Next, Reactor, Ready, Rest, SeatMove, Served, Standing, Teller, serve_many,
+};
 pub use held::{Held, Took};
 pub use numbers::Numbers;
 pub use pace::Pace;

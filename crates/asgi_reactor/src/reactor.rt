@@ -1,5 +1,6 @@
 //! Where the connections of a port come from, and which of them may go on.
 ghost use Rattle.std.specs.Prelude.{◌≡◌, ◌+◌, ◌++◌, ◌∷◌, [], ℕ, None, IfOk, IsFalse};
+ghost use Rattle.asgi_many.specs.Moves.{taken_by};
 ghost use Rattle.asgi_reactor.specs.Accepting.{IfArrived, IsNone, in_all};
 
 use crate::faults::{Fault, fault_of};
@@ -12,7 +13,7 @@ use crate::queue::Queue;
 use crate::quota::Quota;
 use asgi_io::History;
 use asgi_leaving::LeavingLine;
-use asgi_many::{Newcomer, Next, Reactor, Ready, Rest};
+use asgi_many::{Newcomer, Next, Reactor, Ready, Rest, SeatMove};
 use asgi_types::Peer;
 use asgi_ws::Wired;
 use mio::net::{TcpListener, TcpStream};
@@ -32,6 +33,9 @@ const EVENTS: usize = 1_024;
 
 /// How many connections in a row may be lost between their arrival and their being accepted.
 const LOST_IN_A_ROW: u32 = 1_000;
+
+/// How many connections are accepted before those that sit have their turns.
+const NEWCOMERS: u32 = 16;
 
 /// The shortest tick, in milliseconds.
 const SHORTEST_TICK: u64 = 1;
@@ -66,6 +70,8 @@ pub struct SocketReactor<'a, R: Clock> {
     arrived: bool,
     // How many in a row were lost.
     lost: u32,
+    // How many were accepted since the last wait.
+    accepted: u32,
     // The last accept found no descriptor or no memory.
     is_short: bool,
     tick: Duration,
@@ -76,6 +82,7 @@ pub struct SocketReactor<'a, R: Clock> {
     time: Option<Instant>,
     why: Option<io::Error>,
     told: History<Next<PolledLine>>,
+    moves: History<SeatMove>,
 }
 
 impl<'a, R: Net + Clock> SocketReactor<'a, R> {
@@ -136,6 +143,7 @@ impl<'a, R: Net + Clock> SocketReactor<'a, R> {
             flag,
             arrived: true,
             lost: 0,
+            accepted: 0,
             is_short: false,
             tick: numbers.tick.max(Duration::from_millis(SHORTEST_TICK)),
             last_tick: time_of(rt),
@@ -143,6 +151,7 @@ impl<'a, R: Net + Clock> SocketReactor<'a, R> {
             time: time_of(rt),
             why: None,
             told: History::new(),
+            moves: History::new(),
         })
     }
 }
@@ -150,7 +159,7 @@ impl<'a, R: Net + Clock> SocketReactor<'a, R> {
 impl<'a, R: Clock> SocketReactor<'a, R> {
     /// The same, which accepts no more connections than all that share this quota are to accept together.
     pub fn within(self, quota: &'a Quota) -> Self
-        ensures { let was = self.entry in (result.told ≡ was.told) × (result.left ≡ was.left) × (result.why ≡ was.why) }
+        ensures { let was = self.entry in (result.told ≡ was.told) × (result.left ≡ was.left) × (result.why ≡ was.why) × (result.moves ≡ was.moves) }
     {
         let mut reactor = self;
         reactor.quota = Some(quota);
@@ -180,7 +189,7 @@ impl<R: Clock> SocketReactor<'_, R> {
     /// Writes what is still held of connections that have ended, and closes them, as long as their clients take something. The
     /// seats of a server that goes on are closed at once.
     pub fn finish(&mut self)
-        ensures { (self.new.told ≡ self.old.told) × (self.new.why ≡ self.old.why) }
+        ensures { (self.new.told ≡ self.old.told) × (self.new.why ≡ self.old.why) × (self.new.moves ≡ self.old.moves) }
     {
         self.queue.leave_seats();
         for _wait in 0..LAST_WAITS {
@@ -200,14 +209,22 @@ impl<R: Clock> SocketReactor<'_, R> {
         self.left == 0 || self.why.is_some() || is_set(self.flag) || is_spent(self.quota)
     }
 
+    /// Whether those that sit have their turns before one more is accepted.
+    fn has_many_newcomers(&self) -> bool {
+        self.accepted >= NEWCOMERS
+    }
+
     /// The next connection, for this seat.
     fn accept(&mut self, at: usize) -> Next<PolledLine>
-        ensures told { self.new.told ≡ self.old.told }
+        ensures told { (self.new.told ≡ self.old.told) × (self.new.moves ≡ self.old.moves) }
         ensures some { IfArrived result (λ _. (self.old.left ≡ self.new.left + 1) × (self.new.why ≡ None)) }
         ensures none { IsNone result → self.new.left ≡ self.old.left }
     {
         if self.is_over() {
             return Next::NoneEver;
+        }
+        if self.has_many_newcomers() {
+            return Next::NoneNow;
         }
         if self.queue.make_room().is_err() {
             return Next::NoneNow;
@@ -222,7 +239,7 @@ impl<R: Clock> SocketReactor<'_, R> {
     fn accept_within(&mut self, quota: &Quota, at: usize) -> Next<PolledLine>
         requires left { ¬ (self.old.left ≡ 0) }
         requires why { self.old.why ≡ None }
-        ensures told { self.new.told ≡ self.old.told }
+        ensures told { (self.new.told ≡ self.old.told) × (self.new.moves ≡ self.old.moves) }
         ensures some { IfArrived result (λ _. (self.old.left ≡ self.new.left + 1) × (self.new.why ≡ None)) }
         ensures none { IsNone result → self.new.left ≡ self.old.left }
     {
@@ -242,7 +259,7 @@ impl<R: Clock> SocketReactor<'_, R> {
     fn accept_one(&mut self, at: usize) -> Next<PolledLine>
         requires left { ¬ (self.old.left ≡ 0) }
         requires why { self.old.why ≡ None }
-        ensures told { self.new.told ≡ self.old.told }
+        ensures told { (self.new.told ≡ self.old.told) × (self.new.moves ≡ self.old.moves) }
         ensures some { IfArrived result (λ _. (self.old.left ≡ self.new.left + 1) × (self.new.why ≡ None)) }
         ensures none { IsNone result → self.new.left ≡ self.old.left }
     {
@@ -251,6 +268,7 @@ impl<R: Clock> SocketReactor<'_, R> {
                 Some(newcomer) => {
                     self.left -= 1;
                     self.lost = 0;
+                    self.accepted = self.accepted.saturating_add(1);
                     Next::Arrived(newcomer)
                 }
                 None => self.passes(),
@@ -262,7 +280,7 @@ impl<R: Clock> SocketReactor<'_, R> {
     /// A connection was lost. The next one is asked for at once, unless too many were lost.
     fn passes(&mut self) -> Next<PolledLine>
         ensures none { IsNone result }
-        ensures same { (self.new.told ≡ self.old.told) × (self.new.left ≡ self.old.left) × (self.new.why ≡ self.old.why) }
+        ensures same { (self.new.told ≡ self.old.told) × (self.new.moves ≡ self.old.moves) × (self.new.left ≡ self.old.left) × (self.new.why ≡ self.old.why) }
     {
         self.lost = self.lost.saturating_add(1);
         self.arrived = self.lost < LOST_IN_A_ROW;
@@ -272,7 +290,7 @@ impl<R: Clock> SocketReactor<'_, R> {
     /// An accept failed.
     fn fails(&mut self, e: io::Error) -> Next<PolledLine>
         ensures none { IsNone result }
-        ensures same { (self.new.told ≡ self.old.told) × (self.new.left ≡ self.old.left) }
+        ensures same { (self.new.told ≡ self.old.told) × (self.new.moves ≡ self.old.moves) × (self.new.left ≡ self.old.left) }
     {
         match fault_of(&e) {
             Fault::Lost => self.passes(),
@@ -298,7 +316,7 @@ impl<R: Clock> SocketReactor<'_, R> {
         from: SocketAddr,
         at: usize,
     ) -> Option<Newcomer<PolledLine>>
-        ensures { (self.new.told ≡ self.old.told) × (self.new.left ≡ self.old.left) × (self.new.why ≡ self.old.why) }
+        ensures { (self.new.told ≡ self.old.told) × (self.new.moves ≡ self.old.moves) × (self.new.left ≡ self.old.left) × (self.new.why ≡ self.old.why) }
     {
         let mut stream = stream;
         let token = self.queue.add(at)?;
@@ -324,9 +342,19 @@ impl<R: Clock> SocketReactor<'_, R> {
         })
     }
 
+    /// A newcomer takes a seat.
+    fn note(&mut self, next: &Next<PolledLine>)
+        ensures moves { self.new.moves.items ≡ self.old.moves.items ++ taken_by next.now }
+        ensures same { self.new ≡ record self.old { moves = self.new.moves } }
+    {
+        if let Next::Arrived(_newcomer) = next {
+            self.moves = History::with(&self.moves, &SeatMove::Taken);
+        }
+    }
+
     /// How long the system may be waited for.
     fn patience(&self) -> Duration {
-        if self.queue.is_waiting() {
+        if self.queue.is_waiting() || self.has_many_newcomers() {
             return Duration::from_millis(0);
         }
         let mut rest = self.rest_of(self.last_tick, self.tick);
@@ -360,12 +388,14 @@ impl<R: Clock> SocketReactor<'_, R> {
 
     /// Asks the system which sockets are ready, and waits if none is.
     fn gather(&mut self)
-        ensures { (self.new.told ≡ self.old.told) × (self.new.left ≡ self.old.left) × (self.new.why ≡ self.old.why) }
+        ensures { (self.new.told ≡ self.old.told) × (self.new.moves ≡ self.old.moves) × (self.new.left ≡ self.old.left) × (self.new.why ≡ self.old.why) }
     {
         let patience = self.patience();
         // After a failed wait, by a signal for example, no event is left.
         let _asked = self.poll.poll(&mut self.events, Some(patience));
         self.time = time_of(self.clock);
+        self.arrived = self.arrived || self.has_many_newcomers();
+        self.accepted = 0;
         for event in self.events.iter() {
             let Token(token) = event.token();
             if token == ARRIVALS {
@@ -389,7 +419,7 @@ impl<R: Clock> SocketReactor<'_, R> {
 
     /// The exchanges that wait are looked at.
     fn begin_beat(&mut self)
-        ensures { (self.new.told ≡ self.old.told) × (self.new.left ≡ self.old.left) × (self.new.why ≡ self.old.why) }
+        ensures { (self.new.told ≡ self.old.told) × (self.new.moves ≡ self.old.moves) × (self.new.left ≡ self.old.left) × (self.new.why ≡ self.old.why) }
     {
         self.last_beat = self.time;
         self.queue.beat();
@@ -397,7 +427,7 @@ impl<R: Clock> SocketReactor<'_, R> {
 
     /// A tick has passed.
     fn begin_tick(&mut self)
-        ensures { (self.new.told ≡ self.old.told) × (self.new.left ≡ self.old.left) × (self.new.why ≡ self.old.why) }
+        ensures { (self.new.told ≡ self.old.told) × (self.new.moves ≡ self.old.moves) × (self.new.left ≡ self.old.left) × (self.new.why ≡ self.old.why) }
     {
         self.last_tick = self.time;
         self.arrived = true;
@@ -406,7 +436,7 @@ impl<R: Clock> SocketReactor<'_, R> {
 
     /// What may be done next, if it is known.
     fn next_ready(&mut self) -> Option<Ready>
-        ensures { (self.new.told ≡ self.old.told) × (self.new.left ≡ self.old.left) × (self.new.why ≡ self.old.why) }
+        ensures { (self.new.told ≡ self.old.told) × (self.new.moves ≡ self.old.moves) × (self.new.left ≡ self.old.left) × (self.new.why ≡ self.old.why) }
     {
         if self.arrived {
             self.arrived = false;
@@ -452,6 +482,8 @@ impl<R: Clock> Reactor for SocketReactor<'_, R> {
 
     ghost answers = { λ r. r.told.items };
 
+    ghost moves = { λ r. r.moves.items };
+
     ghost Kept = { ℕ };
 
     // At most the number that it was told are accepted.
@@ -459,12 +491,14 @@ impl<R: Clock> Reactor for SocketReactor<'_, R> {
 
     fn try_next(&mut self, at: usize) -> Next<PolledLine>
         ensures told { self.new.told.items ≡ self.old.told.items ++ result ∷ [] }
+        ensures moves { self.new.moves.items ≡ self.old.moves.items ++ taken_by result }
         ensures some { IfArrived result (λ _. (self.old.left ≡ self.new.left + 1) × (self.new.why ≡ None)) }
         ensures none { IsNone result → self.new.left ≡ self.old.left }
         ensures kept { in_all self.new.told.items self.new.left ≡ in_all self.old.told.items self.old.left }
     {
         let next = self.accept(at);
         self.told = History::with(&self.told, &next);
+        self.note(&next);
         next
     }
 
@@ -495,5 +529,6 @@ impl<R: Clock> Reactor for SocketReactor<'_, R> {
 
     fn close(&mut self, at: usize, line: PolledLine) {
         self.queue.close(at, line);
+        self.moves = History::with(&self.moves, &SeatMove::Freed);
     }
 }

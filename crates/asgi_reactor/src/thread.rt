@@ -1,5 +1,6 @@
 //! A server of many connections in the caller's thread.
 ghost use Rattle.std.specs.Prelude.{◌≡◌, IfOk, IsErr};
+ghost use Rattle.asgi_many.specs.Moves.{KeepsSeats};
 ghost use Rattle.asgi_many.specs.Serving.{ServesMany};
 
 use asgi_apps::Application;
@@ -28,7 +29,8 @@ pub fn serve_in_thread<
 ) -> io::Result<Served>
     ensures serves { IfOk result (λ how. ServesMany K.tells (A.answers app.now) N.L.state limits.now state.now (N.answers reactor.old) (N.answers reactor.new)
         teller.old teller.new how) }
-    ensures no_memory { IsErr result → (N.answers reactor.new ≡ N.answers reactor.old) × (teller.new ≡ teller.old) }
+    ensures seats { IfOk result (λ how. KeepsSeats seats (N.moves reactor.old) (N.moves reactor.new) how) }
+    ensures no_memory { IsErr result → (N.answers reactor.new ≡ N.answers reactor.old) × (N.moves reactor.new ≡ N.moves reactor.old) × (teller.new ≡ teller.old) }
     ensures kept { N.kept reactor.new ≡ N.kept reactor.old }
 {
     let solo = Solo::new(rt, Doorbell::spinning())?;

@@ -1,4 +1,4 @@
-use Rattle.std.proofs.Common.{refl, arith}
+use Rattle.std.proofs.Common.{refl, arith, inl, inr}
 use Rattle.std.proofs.lemmas.Option.{slice_get_within}
 use Rattle.asgi_many.specs.Serving.{came_in}
 use Rattle.asgi_many.proofs.ServingLemmas as lemma
@@ -32,3 +32,15 @@ pub returns-in-Over-clause-goes_on : goal.returns-in-Over-clause-goes_on
 returns-in-Over-clause-goes_on g c limits asked told going =
     lemma.ends_one _ _ _ _ _ _ _ limits _ _ asked _ _ told _ _ _ _ c.in-Over.end c.over.ensures.same c.turn.ensures.limits.0 c.over.ensures.told
     (λ came places holds. c.in-Over.ensures.holds came places holds) (λ came places holds. (c.in-Over.ensures.over came places holds).0) going
+
+pub returns-in-NoOne-clause-seats : goal.returns-in-NoOne-clause-seats
+returns-in-NoOne-clause-seats g c = inl (refl, omega (arith, c.turn.ensures.sits))
+
+pub returns-in-Moved-clause-seats : goal.returns-in-Moved-clause-seats
+returns-in-Moved-clause-seats g c = inl (c.again.ensures.moves, omega (arith, c.turn.ensures.sits))
+
+pub returns-in-Idle-clause-seats : goal.returns-in-Idle-clause-seats
+returns-in-Idle-clause-seats g c = inl (c.rests.ensures.moves, omega (arith, c.turn.ensures.sits))
+
+pub returns-in-Over-clause-seats : goal.returns-in-Over-clause-seats
+returns-in-Over-clause-seats g c = inr (inr (c.over.ensures.moves, c.turn.ensures.sits))

@@ -1,4 +1,4 @@
-use Rattle.std.proofs.Common.{refl}
+use Rattle.std.proofs.Common.{refl, inl}
 use Rattle.asgi_many.proofs.ServingLemmas as lemma
 use Rattle.asgi_many.proofs.serving.step.Goals as goal
 
@@ -15,3 +15,12 @@ pub go_on-requires-in-Tick : goal.go_on-requires-in-Tick
 go_on-requires-in-Tick g c =
     let (limits, asked, told, going) = c.requires in
     (limits, asked, told, lemma.goes_on _ _ _ _ _ _ _ limits _ _ asked _ _ told _ _ _ c.wait.ensures.told refl (λ came places holds. holds) going)
+
+pub returns-in-Arrivals-clause-seats : goal.returns-in-Arrivals-clause-seats
+returns-in-Arrivals-clause-seats g c = inl (c.wait.ensures.moves, refl)
+
+pub returns-in-Seat-clause-seats : goal.returns-in-Seat-clause-seats
+returns-in-Seat-clause-seats g c = rw c.wait.ensures.moves at c.go_on.ensures.seats
+
+pub returns-in-Tick-clause-seats : goal.returns-in-Tick-clause-seats
+returns-in-Tick-clause-seats g c = rw c.wait.ensures.moves at c.go_on.ensures.seats

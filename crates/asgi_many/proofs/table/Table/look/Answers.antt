@@ -13,3 +13,6 @@ returns-clause-holds g c came ended holds =
     lemma.goes_on _ _ _ _ _ _ _ _ c.args.self.now _ c.args.at refl holds c.in_ok-seat.seat.now c.swap_piece-2.new.self refl (sym c.in_ok-seat.ensures.value) refl
     (rw c.swap_piece-2.ensures.same (rw c.swap_piece.ensures.same at c.turn-step.ensures.number))
     (rw c.swap_piece-2.ensures.same (rw c.swap_piece.ensures.same at (c.turn-step.ensures.at c.args.self.now.limits)))
+
+pub returns-clause-sits : goal.returns-clause-sits
+returns-clause-sits g c = lemma.stays c.args.self.now.seats c.args.at c.in_ok-seat.seat.now c.swap_piece-2.new.self (sym c.in_ok-seat.ensures.value)

@@ -1,4 +1,4 @@
-use Rattle.std.proofs.Common.{refl, sym, ◌∙◌}
+use Rattle.std.proofs.Common.{refl, sym, ◌∙◌, arith}
 use Rattle.asgi_many.proofs.TableLemmas as lemma
 use Rattle.asgi_many.proofs.table.Table.turn.Goals as goal
 
@@ -67,3 +67,15 @@ returns-in-Over-clause-turned g c =
     let end = rw (written.changed, c.swap_piece-2.ensures.same) at c.free.ensures.end in
     let number = rw c.swap_piece.ensures.same at c.turn-step.ensures.number in
     (rw there (sym (end.0 ∙ number)), c.free.ensures.free)
+
+pub returns-in-Moved-clause-sits : goal.returns-in-Moved-clause-sits
+returns-in-Moved-clause-sits g c =
+    omega (arith, lemma.stays c.args.self.now.seats c.args.at c.in-Some.seat.now c.swap_piece-2.new.self (sym c.in-Some.ensures.value))
+
+pub returns-in-Idle-clause-sits : goal.returns-in-Idle-clause-sits
+returns-in-Idle-clause-sits g c =
+    omega (arith, lemma.stays c.args.self.now.seats c.args.at c.in-Some.seat.now c.swap_piece-2.new.self (sym c.in-Some.ensures.value))
+
+pub returns-in-Over-clause-sits : goal.returns-in-Over-clause-sits
+returns-in-Over-clause-sits g c =
+    omega (arith, c.free.ensures.sits, lemma.stays c.args.self.now.seats c.args.at c.in-Some.seat.now c.swap_piece-2.new.self (sym c.in-Some.ensures.value))

@@ -4,5 +4,6 @@ use Rattle.asgi_reactor.proofs.reactor.SocketReactor.finish.Given as goal
 abbrev pub invariant-loop-wait : goal.invariant-loop-wait
 invariant-loop-wait g l = record {
   told : l.self.told ≡ l.fn.self.told;
+  moves : l.self.moves ≡ l.fn.self.moves;
   why : l.self.why ≡ l.fn.self.why;
 }

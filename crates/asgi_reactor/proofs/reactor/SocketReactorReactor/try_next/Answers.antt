@@ -3,5 +3,5 @@ use Rattle.asgi_reactor.proofs.reactor.SocketReactorReactor.try_next.Goals as go
 
 pub returns-clause-kept : goal.returns-clause-kept
 returns-clause-kept g c =
-    rw (c.with.ensures, c.accept-next.ensures.told)
+    rw (c.note.ensures.same, c.with.ensures, c.accept-next.ensures.told.0)
     (asked_one _ c.args.self.now.told.items c.accept-next.result c.args.self.now.left _ c.accept-next.ensures.some c.accept-next.ensures.none)

@@ -4,5 +4,6 @@ use Rattle.asgi_reactor.proofs.reactor.SocketReactorReactor.wait.Given as goal
 abbrev pub invariant-loop-round : goal.invariant-loop-round
 invariant-loop-round g l = record {
   told : l.self.told ≡ l.fn.self.told;
+  moves : l.self.moves ≡ l.fn.self.moves;
   left : l.self.left ≡ l.fn.self.left;
 }
