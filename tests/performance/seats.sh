@@ -5,7 +5,7 @@
 #             microseconds of a processor that the server took for a request in it, and what 99 of 100 requests took at the most
 #   sessions  echoes a second of WebSocket messages of 1 KiB by 100 and 1,000 clients (sessions.c), the best of ROUNDS, the same
 #   hostile   requests a second of 16 clients while 1,000 others do the worst that they can (hostile.py)
-#   silent    what 9,000 silent clients cost: memory of the server each, and its processor time in ten seconds
+#   silent    what 10,000 silent clients cost: memory of the server each, and its processor time in ten seconds
 # Usage: tests/performance/seats.sh PROGRAM [ROUNDS [HYPER]]
 # PROGRAM is `asgi_many_example`, built. It needs a machine that does nothing else, python3, gcc, and Debian's wrk, nginx-light and
 # uvicorn. HYPER is built from Debian's crates unless it is given.

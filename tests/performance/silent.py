@@ -1,10 +1,10 @@
-"""silent.py PORT PROCESS NAME: what 9,000 clients that come within some twenty seconds, ask once and then say nothing cost the server of
+"""silent.py PORT PROCESS NAME: what 10,000 clients that come within some twenty seconds, ask once and then say nothing cost the server of
 that process: memory each, and processor time in ten seconds. It is called by seats.sh."""
 
 import re, socket, sys, time
 
 port, worker, server = int(sys.argv[1]), sys.argv[2].split()[0], sys.argv[3]
-MANY = 9_000
+MANY = 10_000
 
 
 def memory():

@@ -1,4 +1,4 @@
-use Rattle.std.proofs.Common.{◌∙◌, inl, refl}
+use Rattle.std.proofs.Common.{◌∙◌, inl}
 use Rattle.asgi_many.proofs.ServingLemmas as lemma
 use Rattle.asgi_many.proofs.serving.go_on.Goals as goal
 
@@ -27,12 +27,6 @@ returns-in-Some-Over-clause-goes_on g c limits asked told going =
     rw c.look.ensures.same at (c.leave.ensures.goes_on limits asked told (rw c.look.ensures.same
     (lemma.goes_on _ _ _ _ _ _ _ limits _ _ asked _ _ told _ _ _ c.may_go_on.ensures.told c.look.ensures.limits.0
     (λ came places holds. c.look.ensures.holds came places holds) going)))
-
-pub returns-clause-seats : goal.returns-clause-seats
-returns-clause-seats g c = inl (refl, refl)
-
-pub returns-then-may_go_on-clause-seats : goal.returns-then-may_go_on-clause-seats
-returns-then-may_go_on-clause-seats g c = inl (c.may_go_on.ensures.moves, refl)
 
 pub returns-in-None-clause-seats : goal.returns-in-None-clause-seats
 returns-in-None-clause-seats g c = inl (c.may_go_on.ensures.moves, c.look.ensures.sits)

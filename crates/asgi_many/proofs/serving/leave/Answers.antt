@@ -34,13 +34,13 @@ returns-in-Over-clause-goes_on g c limits asked told going =
     (λ came places holds. c.in-Over.ensures.holds came places holds) (λ came places holds. (c.in-Over.ensures.over came places holds).0) going
 
 pub returns-in-NoOne-clause-seats : goal.returns-in-NoOne-clause-seats
-returns-in-NoOne-clause-seats g c = inl (refl, omega (arith, c.turn.ensures.sits))
+returns-in-NoOne-clause-seats g c = inl (refl, omega (arith, c.in-NoOne.ensures.sits))
 
 pub returns-in-Moved-clause-seats : goal.returns-in-Moved-clause-seats
-returns-in-Moved-clause-seats g c = inl (c.again.ensures.moves, omega (arith, c.turn.ensures.sits))
+returns-in-Moved-clause-seats g c = inl (c.again.ensures.moves, omega (arith, c.in-Moved.ensures.sits))
 
 pub returns-in-Idle-clause-seats : goal.returns-in-Idle-clause-seats
-returns-in-Idle-clause-seats g c = inl (c.rests.ensures.moves, omega (arith, c.turn.ensures.sits))
+returns-in-Idle-clause-seats g c = inl (c.rests.ensures.moves, omega (arith, c.in-Idle.ensures.sits))
 
 pub returns-in-Over-clause-seats : goal.returns-in-Over-clause-seats
-returns-in-Over-clause-seats g c = inr (inr (c.over.ensures.moves, c.turn.ensures.sits))
+returns-in-Over-clause-seats g c = inr (inr (c.over.ensures.moves, c.in-Over.ensures.sits))

@@ -23,4 +23,4 @@ pub returns-in-Seat-clause-seats : goal.returns-in-Seat-clause-seats
 returns-in-Seat-clause-seats g c = rw c.wait.ensures.moves at c.go_on.ensures.seats
 
 pub returns-in-Tick-clause-seats : goal.returns-in-Tick-clause-seats
-returns-in-Tick-clause-seats g c = rw c.wait.ensures.moves at c.go_on.ensures.seats
+returns-in-Tick-clause-seats g c = rw c.wait.ensures.moves at c.go_on-in-Tick.ensures.seats
