@@ -1,6 +1,7 @@
 //! What serves the connections of a table, in the table's own thread.
 ghost use Rattle.std.specs.Prelude.{◌≡◌, IfOk, IsErr};
 ghost use Rattle.asgi_apps.specs.Promises.{Promise};
+ghost use Rattle.asgi_many.specs.Moves.{KeepsSeats};
 ghost use Rattle.asgi_many.specs.Serving.{ServesMany};
 ghost use Rattle.asgi_server.specs.Connections.{PromisesWithin};
 
@@ -33,7 +34,8 @@ pub trait TableEngine<A> {
     ) -> io::Result<Served>
         ensures serves { IfOk result (λ how. ServesMany K.tells (answers app.now) N.L.state limits.now state.now (N.answers reactor.old) (N.answers reactor.new)
             teller.old teller.new how) }
-        ensures no_memory { IsErr result → (N.answers reactor.new ≡ N.answers reactor.old) × (teller.new ≡ teller.old) };
+        ensures seats { IfOk result (λ how. KeepsSeats seats (N.moves reactor.old) (N.moves reactor.new) how) }
+        ensures no_memory { IsErr result → (N.answers reactor.new ≡ N.answers reactor.old) × (N.moves reactor.new ≡ N.moves reactor.old) × (teller.new ≡ teller.old) };
 }
 
 /// An engine whose promise is the application's.

@@ -11,4 +11,4 @@ returns-in-Ok-clause-serves g c = inl (
 )
 
 pub returns-in-Err-clause-serves : goal.returns-in-Err-clause-serves
-returns-in-Err-clause-serves g c = inr (same_around (λ t. t.on_report) _ _ _ _ (c.in-Err.ensures.no_memory refl).0 (c.in-Err.ensures.no_memory refl).1, refl)
+returns-in-Err-clause-serves g c = inr (same_around (λ t. t.on_report) _ _ _ _ (c.in-Err.ensures.no_memory refl).0 (c.in-Err.ensures.no_memory refl).2, refl)
