@@ -93,6 +93,14 @@ def body_of(answer):
     return head, None
 
 
+def greets(line):
+    """Whether the next answer of a connection that goes on is the greeting."""
+    text = b""
+    while not text.endswith(GREETING) and (piece := line.recv(4096)):
+        text += piece
+    return text.startswith(b"HTTP/1.1 200 ") and text.endswith(GREETING)
+
+
 def drip(line, text, each, pause):
     """How many pieces of so many bytes the server has taken until it closed the connection; None if it took all."""
     for number, at in enumerate(range(0, len(text), each)):
@@ -139,6 +147,21 @@ class Seats(unittest.TestCase):
                 right = list(pool.map(lambda _: greeted(server, 2), range(CLIENTS)))
             self.assertEqual(right, [2] * CLIENTS)
             self.assertEqual(server.ended(), sums(CLIENTS, 2 * CLIENTS))
+
+    def test_as_many_sit_as_there_are_seats_and_no_more(self):
+        with Server("hello", 4, seats=3) as server:
+            lines = [server.connect() for _ in range(4)]
+            for line in lines:
+                line.sendall(GET)
+            answered, waiting = lines[:3], lines[3]
+            for line in answered:
+                self.assertTrue(greets(line))
+            self.assertEqual(select.select([waiting], [], [], 0.5)[0], [])
+            answered[0].close()
+            self.assertTrue(greets(waiting))
+            for line in lines[1:]:
+                line.close()
+            self.assertEqual(server.ended(), sums(4, 4))
 
     def test_sessions(self):
         with Server("wsecho", CLIENTS) as server:

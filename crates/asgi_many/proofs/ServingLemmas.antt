@@ -13,6 +13,8 @@ use Rattle.asgi_apps.specs.Promises.{Promise}
 use Rattle.asgi_desk.specs.Told.{Told}
 use Rattle.asgi_run.specs.declared.runner.AppSide.{AppSide}
 use Rattle.slab.specs.Slab.{get}
+use Rattle.asgi_many.specs.declared.intake.Intake.{Intake}
+use Rattle.asgi_many.specs.declared.intake.Intake.TheVariants.{Asks, Waits, Closed}
 use Rattle.asgi_many.specs.declared.reactor.Next.{Next}
 use Rattle.asgi_many.specs.declared.reactor.Next.TheVariants.{Arrived, NoneNow, NoneEver}
 use Rattle.asgi_many.specs.declared.seat.Departure.{Departure}
@@ -22,7 +24,7 @@ use Rattle.asgi_many.specs.declared.serving.Served.{Served}
 use Rattle.asgi_many.specs.declared.serving.Served.TheVariants.{All, TooLong}
 use Rattle.asgi_many.specs.declared.table.Table.{Table}
 use Rattle.asgi_many.specs.Seats.{KeepsEnds}
-use Rattle.asgi_many.specs.Serving.{Adds, Going, ServesMany, Sits, came_in, departure_of, end_number, told_of}
+use Rattle.asgi_many.specs.Serving.{Adds, Going, SaidNoneEver, ServesMany, Sits, came_in, departure_of, end_number, told_of}
 use Rattle.asgi_many.specs.Standing.{Holds, IsEmpty, IsServed, number_of}
 use Rattle.asgi_many.proofs.EndLemmas as ended
 use Rattle.asgi_many.proofs.TableLemmas as tables
@@ -59,6 +61,33 @@ is_too_long TooLong = Unit {0}
 pub not_all : {P : Type 0} → TooLong ≡ All → P
 unfolding is_too_long
 not_all same = absurd (subst is_too_long same tt)
+
+-- ---- whether one is asked for again
+
+cancel : {A : Type 0} (xs us vs : List A) → xs ++ us ≡ xs ++ vs → us ≡ vs
+cancel [] us vs same = same
+cancel (x ∷ xs) us vs same = let tails : xs ++ us ≡ xs ++ vs = cc in cancel xs us vs tails
+
+is_closed : Intake → Type 0
+is_closed Asks = ⊥
+is_closed Waits = ⊥
+is_closed Closed = Unit {0}
+
+-- it asks, so it is not closed
+pub asks_on : {P : Type 0} → Asks ≡ Closed → P
+unfolding is_closed
+asks_on same = absurd (subst is_closed (sym same) tt)
+
+pub waits_on : {P : Type 0} → Waits ≡ Closed → P
+unfolding is_closed
+waits_on same = absurd (subst is_closed (sym same) tt)
+
+-- Closed by this step, or before it.
+pub stays_closed : {L : Type 0} (asked_old asked_now asked_new : List (Next L)) (was : Intake) → (was ≡ Closed → SaidNoneEver asked_old asked_now)
+    → ((at : List (Next L)) × (asked_now ≡ asked_old ++ at)) → (asked_new ≡ asked_now ++ NoneEver ∷ []) ⊎ ((was ≡ Closed) × (asked_new ≡ asked_now)) → SaidNoneEver asked_old asked_new
+stays_closed asked_old asked_now asked_new was before (at, asked) (inl said) =
+    (at, said ∙ ap (λ l. l ++ NoneEver ∷ []) asked ∙ append_assoc asked_old at (NoneEver ∷ []))
+stays_closed asked_old asked_now asked_new was before asked (inr (closed, same)) = rw same (before closed)
 
 module _ {T C E X L : Type 0} (answers_of : T → List Incoming → List Outgoing → Option EndKind → Type 0) (conns : conn_end.Ghosts C) (app_ends : app_end.Ghosts E) (conn : X → C)
     (began : X → AppSide T E → Type 0) (promise : Promise) (line_state : L → LineState) (limits : Limits) (state : List (List ℕ × StateValue)) where
@@ -176,9 +205,9 @@ module _ {T C E X L : Type 0} (answers_of : T → List Incoming → List Outgoin
   -- ---- it ends
 
   pub serves : {K : Type 0} (tells : K → K → ℕ → Departure → Type 0) (asked_old asked_now : List (Next L)) (teller_old teller_now : K) (table : Table X L) (how : Served)
-      → (how ≡ All → IsEmpty table) → GoingNow tells asked_old asked_now teller_old teller_now table
+      → (how ≡ All → IsEmpty table) → (how ≡ All → SaidNoneEver asked_old asked_now) → GoingNow tells asked_old asked_now teller_old teller_now table
       → ServesMany tells promise line_state limits state asked_old asked_now teller_old teller_now how
-  serves tells asked_old asked_now teller_old teller_now table how empty going =
+  serves tells asked_old asked_now teller_old teller_now table how empty said going =
       let holds = going.sits.holds in
       let seating = rw going.sits.limited at holds.seating in
       record {
@@ -189,4 +218,5 @@ module _ {T C E X L : Type 0} (answers_of : T → List Incoming → List Outgoin
         told = going.told;
         all = λ is_all k one given. ended.all_of end_number number_of _ (IsServed promise line_state limits state) (came_in going.sits.answers) (get table.seats) going.places going.ends going.keeps seating
             (rw going.sits.limited at (tables.all_ended answers_of conns app_ends conn began promise line_state state (came_in going.sits.answers) table going.places holds (empty is_all))) k one given;
+        no_more = λ is_all. let (before, same) = said is_all in (before, cancel asked_old going.sits.answers (before ++ NoneEver ∷ []) (sym going.sits.asked ∙ same));
       }

@@ -54,8 +54,14 @@ pub record ServesMany {K L : Type 0} (tells : K → K → ℕ → Departure → 
   -- if it did not end too soon, each that came has ended
   pub all : how ≡ All → (k : ℕ) (one : Newcomer L) → slice_get (came_in answers) k ≡ Some one
       → (i : ℕ) × (end : Ended L) × (slice_get ends i ≡ Some end) × (end.number ≡ k)
+  -- and the last answer was that none will come any more
+  pub no_more : how ≡ All → (before : List (Next L)) × (answers ≡ before ++ NoneEver ∷ [])
 
 -- ---- words of private functions
+
+-- The last time that a connection was asked for, the answer was that none will come any more.
+abbrev pub SaidNoneEver : {L : Type 0} (asked_old asked_now : List (Next L)) → Type 0
+SaidNoneEver {L} asked_old asked_now = (before : List (Next L)) × (asked_now ≡ asked_old ++ before ++ NoneEver ∷ [])
 
 -- a place more for what ends, or none
 abbrev pub Adds : {E : Type 0} → List (Option E) → List (Option E) → Type 0

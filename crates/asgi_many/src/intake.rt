@@ -1,4 +1,6 @@
 //! Whether a server asks for more connections.
+ghost use Rattle.std.specs.Prelude.{◌≡◌, IsTrue};
+ghost use Rattle.asgi_many.specs.declared.intake.Intake.TheVariants.{Closed};
 
 /// Whether a server asks for more connections.
 #[derive(Clone, Copy, Debug, PartialEq, Eq)]
@@ -22,7 +24,9 @@ impl Intake {
     }
 
     /// Whether none will come any more.
-    pub(crate) fn is_closed(self) -> bool {
+    pub(crate) fn is_closed(self) -> bool
+        ensures yes { IsTrue result → self ≡ Closed }
+    {
         match self {
             Intake::Asks => false,
             Intake::Waits => false,
@@ -31,7 +35,9 @@ impl Intake {
     }
 
     /// The same once a connection may have arrived.
-    pub(crate) fn told_of_arrivals(self) -> Intake {
+    pub(crate) fn told_of_arrivals(self) -> Intake
+        ensures stays { result ≡ Closed → self ≡ Closed }
+    {
         match self {
             Intake::Asks => Intake::Asks,
             Intake::Waits => Intake::Asks,

@@ -1,7 +1,9 @@
 //! A server of many connections in one thread.
-ghost use Rattle.std.specs.Prelude.{◌≡◌, ◌+◌, ◌-◌, ◌^◌, ◌<◌, ◌++◌, ◌∷◌, [], ℕ, List, Option, IfOk, IsErr, IsTrue, slice_get};
+ghost use Rattle.std.specs.Prelude.{◌≡◌, ◌⊎◌, ◌+◌, ◌-◌, ◌^◌, ◌<◌, ◌++◌, ◌∷◌, [], ℕ, List, Option, IfOk, IsErr, IsTrue, slice_get};
 ghost use Rattle.asgi_many.specs.declared.seat.Ended.{Ended};
 ghost use Rattle.slab.specs.Slab.{slab_len};
+ghost use Rattle.asgi_many.specs.declared.intake.Intake.TheVariants.{Closed};
+ghost use Rattle.asgi_many.specs.declared.reactor.Next.TheVariants.{NoneEver};
 ghost use Rattle.asgi_many.specs.declared.reactor.SeatMove.TheVariants.{Freed};
 ghost use Rattle.asgi_many.specs.Moves.{KeepsSeats, Shifts};
 ghost use Rattle.asgi_many.specs.Standing.{IsFull};
@@ -31,8 +33,8 @@ pub enum Served {
 /// upwards.
 ///
 /// The memory of the table is taken first, and if it is refused the reactor is not asked. While each seat is taken none is asked for,
-/// so none that came is sent away. A line is given back to the reactor once its connection has ended. What each call of the
-/// reactor keeps is kept.
+/// so none that came is sent away. A line is given back to the reactor once its connection has ended. It says `All` only once the
+/// reactor has said that none will come any more. What each call of the reactor keeps is kept.
 pub fn serve_many<
     X: Drop,
     A: Application,
@@ -93,6 +95,7 @@ fn step<
         asked (N.answers reactor.old) told teller.old table.old
         → Going A.Task.answers U.Pipes.Conn.ConnEnd U.Pipes.App.AppEnd U.conn U.began (A.answers calls.old.app.now) N.L.state limits state.now K.tells
         asked (N.answers reactor.new) told teller.new table.new }
+    ensures no_more { result ≡ Closed → (N.answers reactor.new ≡ N.answers reactor.old ++ NoneEver ∷ []) ⊎ ((intake ≡ Closed) × (N.answers reactor.new ≡ N.answers reactor.old)) }
     ensures same { calls.new.app.now ≡ calls.old.app.now }
     ensures seats { Shifts table.old.places (N.moves reactor.old) (N.moves reactor.new) (slab_len table.old.seats) (slab_len table.new.seats) }
     ensures places { table.new.places ≡ table.old.places }
@@ -127,6 +130,7 @@ fn take_in<X: Drop, A: Application, N: Reactor, U: Runner<A::Task, Exchange = X>
         → Sits A.Task.answers U.Pipes.Conn.ConnEnd U.Pipes.App.AppEnd U.conn U.began (A.answers app) N.L.state limits state.now asked (N.answers reactor.old) places table.old
         → (more : List (Option (Ended N.L))) × Adds places more
         × Sits A.Task.answers U.Pipes.Conn.ConnEnd U.Pipes.App.AppEnd U.conn U.began (A.answers app) N.L.state limits state.now asked (N.answers reactor.new) more table.new }
+    ensures no_more { result ≡ Closed → N.answers reactor.new ≡ N.answers reactor.old ++ NoneEver ∷ [] }
     ensures seats { Shifts table.old.places (N.moves reactor.old) (N.moves reactor.new) (slab_len table.old.seats) (slab_len table.new.seats) }
     ensures places { table.new.places ≡ table.old.places }
     ensures kept { N.kept reactor.new ≡ N.kept reactor.old }
@@ -169,6 +173,7 @@ fn go_on<
         asked (N.answers reactor.old) told teller.old table.old
         → Going A.Task.answers U.Pipes.Conn.ConnEnd U.Pipes.App.AppEnd U.conn U.began (A.answers calls.old.app.now) N.L.state limits state.now K.tells
         asked (N.answers reactor.new) told teller.new table.new }
+    ensures asked { N.answers reactor.new ≡ N.answers reactor.old }
     ensures same { calls.new.app.now ≡ calls.old.app.now }
     ensures seats { Shifts table.old.places (N.moves reactor.old) (N.moves reactor.new) (slab_len table.old.seats) (slab_len table.new.seats) }
     ensures places { table.new.places ≡ table.old.places }
@@ -215,6 +220,7 @@ fn leave<
         asked (N.answers reactor.old) told teller.old table.old
         → Going A.Task.answers U.Pipes.Conn.ConnEnd U.Pipes.App.AppEnd U.conn U.began (A.answers calls.old.app.now) N.L.state limits state.now K.tells
         asked (N.answers reactor.new) told teller.new table.new }
+    ensures asked { N.answers reactor.new ≡ N.answers reactor.old }
     ensures same { calls.new.app.now ≡ calls.old.app.now }
     ensures seats { Shifts table.old.places (N.moves reactor.old) (N.moves reactor.new) (slab_len table.old.seats) (slab_len table.new.seats) }
     ensures places { table.new.places ≡ table.old.places }

@@ -17,6 +17,12 @@ IsNone (Arrived newcomer) = ⊥
 IsNone NoneNow = ⊤
 IsNone NoneEver = ⊤
 
+-- none will come any more
+abbrev pub IsNoneEver : {L : Type 0} → Next L → Type 0
+IsNoneEver (Arrived newcomer) = ⊥
+IsNoneEver NoneNow = ⊥
+IsNoneEver NoneEver = ⊤
+
 -- how many came and will still be accepted at the most, if a reactor has answered so and this many are left
 abbrev pub in_all : {L : Type 0} → List (Next L) → ℕ → ℕ
 in_all answers left = length (came_in answers) + left

@@ -1,4 +1,5 @@
 pub mod private
 pub mod Accepting
+pub mod Faults
 pub mod Holding
 pub mod Pacing

@@ -1,11 +1,18 @@
 //! What a failed accept means (accept(2)).
+ghost use Rattle.std.specs.Prelude.{◌≡◌};
+ghost use Rattle.std.specs.IoError.{raw_os_error, error_kind};
+ghost use Rattle.asgi_reactor.specs.Faults.{fault_of, fault_of_code, fault_of_kind};
+
 use std::io::{self, ErrorKind};
 
-/// Errors of the listener itself: EBADF, EFAULT, EINVAL, ENOTSOCK.
-const LASTING: &[i32] = &[9, 14, 22, 88];
+/// Where no connection is there: EAGAIN.
+const NONE_NOW: &[i32] = &[11];
 
 /// Those of a want of memory or of descriptors: ENOMEM, ENFILE, EMFILE, ENOBUFS.
 const SHORT: &[i32] = &[12, 23, 24, 105];
+
+/// Errors of the listener itself: EBADF, EFAULT, EINVAL, ENOTSOCK.
+const LASTING: &[i32] = &[9, 14, 22, 88];
 
 /// What a failed accept means.
 #[derive(Clone, Copy, Debug, PartialEq, Eq)]
@@ -21,13 +28,21 @@ pub enum Fault {
 }
 
 /// What a failed accept means.
-pub fn fault_of(e: &io::Error) -> Fault {
-    if e.kind() == ErrorKind::WouldBlock {
+pub fn fault_of(e: &io::Error) -> Fault
+    ensures { result ≡ fault_of (raw_os_error e.now) (error_kind e.now) }
+{
+    match e.raw_os_error() {
+        Some(code) => fault_of_code(code),
+        None => fault_of_kind(e.kind()),
+    }
+}
+
+fn fault_of_code(code: i32) -> Fault
+    ensures { result ≡ fault_of_code code }
+{
+    if NONE_NOW.contains(&code) {
         return Fault::NoneNow;
     }
-    let Some(code) = e.raw_os_error() else {
-        return Fault::Lost;
-    };
     if SHORT.contains(&code) {
         return Fault::Short;
     }
@@ -35,4 +50,14 @@ pub fn fault_of(e: &io::Error) -> Fault {
         return Fault::Lasting;
     }
     Fault::Lost
+}
+
+fn fault_of_kind(kind: ErrorKind) -> Fault
+    ensures { result ≡ fault_of_kind kind }
+{
+    match kind {
+        ErrorKind::WouldBlock => Fault::NoneNow,
+        ErrorKind::OutOfMemory => Fault::Short,
+        _ => Fault::Lost,
+    }
 }

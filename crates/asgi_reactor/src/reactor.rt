@@ -1,7 +1,9 @@
 //! Where the connections of a port come from, and which of them may go on.
-ghost use Rattle.std.specs.Prelude.{◌≡◌, ◌+◌, ◌++◌, ◌∷◌, [], ℕ, None, IfOk, IsFalse};
+ghost use Rattle.std.specs.Prelude.{◌≡◌, ◌⊎◌, ◌+◌, ◌++◌, ◌∷◌, [], ℕ, None, IfOk, IsFalse, IsSome, IsTrue};
 ghost use Rattle.asgi_many.specs.Moves.{taken_by};
-ghost use Rattle.asgi_reactor.specs.Accepting.{IfArrived, IsNone, in_all};
+ghost use Rattle.asgi_many.specs.declared.reactor.Next.TheVariants.{NoneNow};
+ghost use Rattle.asgi_reactor.specs.Accepting.{IfArrived, IsNone, IsNoneEver, in_all};
+ghost use Rattle.asgi_reactor.specs.Faults.{HasFailed, IsOver};
 
 use crate::faults::{Fault, fault_of};
 use crate::numbers::Numbers;
@@ -205,6 +207,7 @@ impl<R: Clock> SocketReactor<'_, R> {
     fn is_over(&self) -> bool
         ensures left { IsFalse result → ¬ (self.now.left ≡ 0) }
         ensures why { IsFalse result → self.now.why ≡ None }
+        ensures over { IsTrue result → IsOver self.now.left self.now.why self.now.flag self.now.quota }
     {
         self.left == 0 || self.why.is_some() || is_set(self.flag) || is_spent(self.quota)
     }
@@ -219,6 +222,8 @@ impl<R: Clock> SocketReactor<'_, R> {
         ensures told { (self.new.told ≡ self.old.told) × (self.new.moves ≡ self.old.moves) }
         ensures some { IfArrived result (λ _. (self.old.left ≡ self.new.left + 1) × (self.new.why ≡ None)) }
         ensures none { IsNone result → self.new.left ≡ self.old.left }
+        ensures ever { IsNoneEver result → IsOver self.new.left self.new.why self.new.flag self.new.quota }
+        ensures why { (self.new.why ≡ self.old.why) ⊎ HasFailed self.new.why }
     {
         if self.is_over() {
             return Next::NoneEver;
@@ -242,6 +247,8 @@ impl<R: Clock> SocketReactor<'_, R> {
         ensures told { (self.new.told ≡ self.old.told) × (self.new.moves ≡ self.old.moves) }
         ensures some { IfArrived result (λ _. (self.old.left ≡ self.new.left + 1) × (self.new.why ≡ None)) }
         ensures none { IsNone result → self.new.left ≡ self.old.left }
+        ensures ever { IsNoneEver result → IsOver self.new.left self.new.why self.new.flag self.new.quota }
+        ensures why { (self.new.why ≡ self.old.why) ⊎ HasFailed self.new.why }
     {
         if !quota.take() {
             return Next::NoneNow;
@@ -262,6 +269,8 @@ impl<R: Clock> SocketReactor<'_, R> {
         ensures told { (self.new.told ≡ self.old.told) × (self.new.moves ≡ self.old.moves) }
         ensures some { IfArrived result (λ _. (self.old.left ≡ self.new.left + 1) × (self.new.why ≡ None)) }
         ensures none { IsNone result → self.new.left ≡ self.old.left }
+        ensures ever { IsNoneEver result → IsOver self.new.left self.new.why self.new.flag self.new.quota }
+        ensures why { (self.new.why ≡ self.old.why) ⊎ HasFailed self.new.why }
     {
         match self.listener.accept() {
             Ok((stream, from)) => match self.take(stream, from, at) {
@@ -279,7 +288,7 @@ impl<R: Clock> SocketReactor<'_, R> {
 
     /// A connection was lost. The next one is asked for at once, unless too many were lost.
     fn passes(&mut self) -> Next<PolledLine>
-        ensures none { IsNone result }
+        ensures now { result ≡ NoneNow }
         ensures same { (self.new.told ≡ self.old.told) × (self.new.moves ≡ self.old.moves) × (self.new.left ≡ self.old.left) × (self.new.why ≡ self.old.why) }
     {
         self.lost = self.lost.saturating_add(1);
@@ -290,6 +299,8 @@ impl<R: Clock> SocketReactor<'_, R> {
     /// An accept failed.
     fn fails(&mut self, e: io::Error) -> Next<PolledLine>
         ensures none { IsNone result }
+        ensures ever { IsNoneEver result → HasFailed self.new.why }
+        ensures why { (self.new.why ≡ self.old.why) ⊎ HasFailed self.new.why }
         ensures same { (self.new.told ≡ self.old.told) × (self.new.moves ≡ self.old.moves) × (self.new.left ≡ self.old.left) }
     {
         match fault_of(&e) {
@@ -462,7 +473,9 @@ fn time_of<R: Clock>(clock: &R) -> Option<Instant> {
 }
 
 /// Whether there is a quota, and no connection of it is left.
-fn is_spent(quota: Option<&Quota>) -> bool {
+fn is_spent(quota: Option<&Quota>) -> bool
+    ensures yes { IsTrue result → IsSome quota.entry }
+{
     match quota {
         Some(quota) => quota.is_over(),
         None => false,
@@ -470,7 +483,9 @@ fn is_spent(quota: Option<&Quota>) -> bool {
 }
 
 /// Whether there is a flag, and it is set.
-fn is_set(flag: Option<&AtomicBool>) -> bool {
+fn is_set(flag: Option<&AtomicBool>) -> bool
+    ensures yes { IsTrue result → IsSome flag.entry }
+{
     match flag {
         Some(flag) => flag.load(Ordering::SeqCst),
         None => false,
@@ -494,6 +509,8 @@ impl<R: Clock> Reactor for SocketReactor<'_, R> {
         ensures moves { self.new.moves.items ≡ self.old.moves.items ++ taken_by result }
         ensures some { IfArrived result (λ _. (self.old.left ≡ self.new.left + 1) × (self.new.why ≡ None)) }
         ensures none { IsNone result → self.new.left ≡ self.old.left }
+        ensures ever { IsNoneEver result → IsOver self.new.left self.new.why self.new.flag self.new.quota }
+        ensures why { (self.new.why ≡ self.old.why) ⊎ HasFailed self.new.why }
         ensures kept { in_all self.new.told.items self.new.left ≡ in_all self.old.told.items self.old.left }
     {
         let next = self.accept(at);

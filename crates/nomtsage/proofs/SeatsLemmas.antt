@@ -40,6 +40,7 @@ module _ {K T : Type 0} (tells : K → K → ℕ → Report → Type 0) (part : 
     served = x.served;
     told = told_part was is _ x.told;
     all = x.all;
+    no_more = x.no_more;
   }
 
 -- nothing was asked for, and nothing told

@@ -62,6 +62,7 @@ module _ (one other : Promise) (within : PromisesWithin one other) (limits : Lim
     };
     told = x.told;
     all = x.all;
+    no_more = x.no_more;
   }
 
   -- and that or nothing.

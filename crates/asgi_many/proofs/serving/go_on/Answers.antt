@@ -39,3 +39,15 @@ returns-in-Some-Idle-clause-seats g c = inl (c.rests.ensures.moves ∙ c.may_go_
 
 pub returns-in-Some-Over-clause-seats : goal.returns-in-Some-Over-clause-seats
 returns-in-Some-Over-clause-seats g c = rw (c.may_go_on.ensures.moves, c.look.ensures.sits, c.look.ensures.limits.1) at c.leave.ensures.seats
+
+pub returns-in-None-clause-asked : goal.returns-in-None-clause-asked
+returns-in-None-clause-asked g c = c.may_go_on.ensures.told
+
+pub returns-in-Some-Moved-clause-asked : goal.returns-in-Some-Moved-clause-asked
+returns-in-Some-Moved-clause-asked g c = c.again.ensures.told ∙ c.may_go_on.ensures.told
+
+pub returns-in-Some-Idle-clause-asked : goal.returns-in-Some-Idle-clause-asked
+returns-in-Some-Idle-clause-asked g c = c.rests.ensures.told ∙ c.may_go_on.ensures.told
+
+pub returns-in-Some-Over-clause-asked : goal.returns-in-Some-Over-clause-asked
+returns-in-Some-Over-clause-asked g c = c.leave.ensures.asked ∙ c.may_go_on.ensures.told

@@ -44,3 +44,15 @@ returns-in-Idle-clause-seats g c = inl (c.rests.ensures.moves, omega (arith, c.i
 
 pub returns-in-Over-clause-seats : goal.returns-in-Over-clause-seats
 returns-in-Over-clause-seats g c = inr (inr (c.over.ensures.moves, c.in-Over.ensures.sits))
+
+pub returns-in-NoOne-clause-asked : goal.returns-in-NoOne-clause-asked
+returns-in-NoOne-clause-asked g c = refl
+
+pub returns-in-Moved-clause-asked : goal.returns-in-Moved-clause-asked
+returns-in-Moved-clause-asked g c = c.again.ensures.told
+
+pub returns-in-Idle-clause-asked : goal.returns-in-Idle-clause-asked
+returns-in-Idle-clause-asked g c = c.rests.ensures.told
+
+pub returns-in-Over-clause-asked : goal.returns-in-Over-clause-asked
+returns-in-Over-clause-asked g c = c.over.ensures.same

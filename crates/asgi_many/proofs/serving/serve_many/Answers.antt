@@ -8,6 +8,7 @@ pub loop-step-init : goal.loop-step-init
 loop-step-init g c = record {
   going = lemma.begins _ _ _ _ _ _ _ _ _ _ _ _ c.in_ok-table.table c.in_ok-table.ensures.empty.2 (c.in_ok-table.ensures.holds c.args.app.now c.args.state.now);
   seats = move.begins _ _ _ c.in_ok-table.ensures.empty.0;
+  no_more = λ closed. lemma.asks_on closed;
   places = c.in_ok-table.ensures.empty.1;
   same_app = c.of-calls.ensures.app;
   kept = refl;
@@ -15,7 +16,7 @@ loop-step-init g c = record {
 
 pub returns-then-is_empty-clause-serves : goal.returns-then-is_empty-clause-serves
 returns-then-is_empty-clause-serves g c =
-    lemma.serves _ _ _ _ _ _ _ _ _ _ _ _ _ _ _ All (λ all. c.if-is_empty.ensures.0 refl) c.loop-step.invariant.going
+    lemma.serves _ _ _ _ _ _ _ _ _ _ _ _ _ _ _ All (λ all. c.if-is_empty.ensures.0 refl) (λ all. c.loop-step.invariant.no_more (c.if-is_closed.ensures.yes refl)) c.loop-step.invariant.going
 
 pub step-intake-requires : goal.step-intake-requires
 step-intake-requires g c =
@@ -25,6 +26,8 @@ pub loop-step-preserved : goal.loop-step-preserved
 loop-step-preserved g c = record {
   going = (rw c.loop-step.invariant.same_app at (c.step-intake.ensures.goes_on c.args.limits.now (g.N.Reactor.answers c.args.reactor.now) c.args.teller.now)) c.loop-step.invariant.going;
   seats = move.shifts _ _ _ _ _ _ (rw c.loop-step.invariant.places at c.step-intake.ensures.seats) c.loop-step.invariant.seats;
+  no_more = λ closed. lemma.stays_closed _ _ _ _ c.loop-step.invariant.no_more
+      (c.loop-step.invariant.going.sits.answers, c.loop-step.invariant.going.sits.asked) (c.step-intake.ensures.no_more closed);
   places = c.step-intake.ensures.places ∙ c.loop-step.invariant.places;
   same_app = c.step-intake.ensures.same ∙ c.loop-step.invariant.same_app;
   kept = c.step-intake.ensures.kept ∙ c.loop-step.invariant.kept;
@@ -32,7 +35,7 @@ loop-step-preserved g c = record {
 
 pub returns-clause-serves : goal.returns-clause-serves
 returns-clause-serves g c =
-    lemma.serves _ _ _ _ _ _ _ _ _ _ _ _ _ _ _ TooLong (λ all. lemma.not_all all) c.loop-step.invariant.going
+    lemma.serves _ _ _ _ _ _ _ _ _ _ _ _ _ _ _ TooLong (λ all. lemma.not_all all) (λ all. lemma.not_all all) c.loop-step.invariant.going
 
 pub returns-then-is_empty-clause-seats : goal.returns-then-is_empty-clause-seats
 returns-then-is_empty-clause-seats g c = move.keeps _ _ _ _ All c.loop-step.invariant.seats (λ all. c.if-is_empty.ensures.0 refl)

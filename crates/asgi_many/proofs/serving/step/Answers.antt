@@ -1,4 +1,4 @@
-use Rattle.std.proofs.Common.{refl, inl}
+use Rattle.std.proofs.Common.{refl, inl, inr, ◌∙◌}
 use Rattle.asgi_many.proofs.ServingLemmas as lemma
 use Rattle.asgi_many.proofs.serving.step.Goals as goal
 
@@ -15,6 +15,18 @@ pub go_on-requires-in-Tick : goal.go_on-requires-in-Tick
 go_on-requires-in-Tick g c =
     let (limits, asked, told, going) = c.requires in
     (limits, asked, told, lemma.goes_on _ _ _ _ _ _ _ limits _ _ asked _ _ told _ _ _ c.wait.ensures.told refl (λ came places holds. holds) going)
+
+pub returns-then-has_seat-clause-no_more : goal.returns-then-has_seat-clause-no_more
+returns-then-has_seat-clause-no_more g c closed = inl (c.take_in.ensures.no_more closed)
+
+pub returns-in-Arrivals-clause-no_more : goal.returns-in-Arrivals-clause-no_more
+returns-in-Arrivals-clause-no_more g c closed = inr (c.told_of_arrivals.ensures.stays closed, c.wait.ensures.told)
+
+pub returns-in-Seat-clause-no_more : goal.returns-in-Seat-clause-no_more
+returns-in-Seat-clause-no_more g c closed = inr (closed, c.go_on.ensures.asked ∙ c.wait.ensures.told)
+
+pub returns-in-Tick-clause-no_more : goal.returns-in-Tick-clause-no_more
+returns-in-Tick-clause-no_more g c closed = inr (closed, c.go_on-in-Tick.ensures.asked ∙ c.wait.ensures.told)
 
 pub returns-in-Arrivals-clause-seats : goal.returns-in-Arrivals-clause-seats
 returns-in-Arrivals-clause-seats g c = inl (c.wait.ensures.moves, refl)
