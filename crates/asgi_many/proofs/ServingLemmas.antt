@@ -1,5 +1,5 @@
 -- What holds of a server after one of its steps.
-use Rattle.std.proofs.Common.{◌≡◌, ℕ, ◌+◌, List, [], ◌∷◌, ◌++◌, map, Option, Some, None, refl, sym, ap, ◌∙◌, inl, inr, subst, slice_get, append_assoc, append-nil}
+use Rattle.std.proofs.Common.{◌≡◌, ◌≢◌, ◌⊎◌, ℕ, ◌+◌, ◌-◌, ◌^◌, ◌<◌, ◌≤◌, length, arith, List, [], ◌∷◌, ◌++◌, map, Option, Some, None, refl, sym, ap, ◌∙◌, inl, inr, subst, slice_get, append_assoc, append-nil}
 use Rattle.std.specs.Prelude.{slice_set}
 use Rattle.asgi_types.specs.declared.end_kind.EndKind.{EndKind}
 use Rattle.asgi_types.specs.declared.incoming.Incoming.{Incoming}
@@ -23,6 +23,7 @@ use Rattle.asgi_many.specs.declared.seat.Newcomer.{Newcomer}
 use Rattle.asgi_many.specs.declared.serving.Served.{Served}
 use Rattle.asgi_many.specs.declared.serving.Served.TheVariants.{All, TooLong}
 use Rattle.asgi_many.specs.declared.table.Table.{Table}
+use Rattle.asgi_many.specs.Moves.{asks_again}
 use Rattle.asgi_many.specs.Seats.{KeepsEnds}
 use Rattle.asgi_many.specs.Serving.{Adds, Going, SaidNoneEver, ServesMany, Sits, came_in, departure_of, end_number, told_of}
 use Rattle.asgi_many.specs.Standing.{Holds, IsEmpty, IsServed, number_of}
@@ -57,10 +58,36 @@ is_too_long : Served → Type 0
 is_too_long All = ⊥
 is_too_long TooLong = Unit {0}
 
+pub not_long : {P : Type 0} → All ≡ TooLong → P
+unfolding is_too_long
+not_long same = absurd (subst is_too_long (sym same) tt)
+
 -- they are two ends
 pub not_all : {P : Type 0} → TooLong ≡ All → P
 unfolding is_too_long
 not_all same = absurd (subst is_too_long same tt)
+
+-- ---- how often one was asked for
+
+length_push : {A : Type 0} (xs : List A) (x : A) → length (xs ++ x ∷ []) ≡ length xs + 1
+length_push [] x = omega (arith)
+length_push (y ∷ xs) x = let rest = length_push xs x in omega (arith, rest)
+
+length_both : {A : Type 0} (xs ys : List A) → length (xs ++ ys) ≡ length xs + length ys
+length_both [] ys = omega (arith)
+length_both (x ∷ xs) ys = let rest = length_both xs ys in omega (arith, rest)
+
+pub one_more : {A : Type 0} (old new : List A) (one : A) → new ≡ old ++ one ∷ [] → length new ≤ length old + 1
+one_more old new one same = let long = length_push old one in let now = ap length same in omega (arith, long, now)
+
+pub none_more : {A : Type 0} (old new : List A) → new ≡ old → length new ≤ length old + 1
+none_more old new same = let now = ap length same in omega (arith, now)
+
+few_in : {L : Type 0} (answers : List (Next L)) → length (came_in answers) ≤ length answers
+few_in [] = omega (arith)
+few_in (Arrived newcomer ∷ answers) = let rest = few_in answers in omega (arith, rest)
+few_in (NoneNow ∷ answers) = let rest = few_in answers in omega (arith, rest)
+few_in (NoneEver ∷ answers) = let rest = few_in answers in omega (arith, rest)
 
 -- ---- whether one is asked for again
 
@@ -81,6 +108,12 @@ asks_on same = absurd (subst is_closed (sym same) tt)
 pub waits_on : {P : Type 0} → Waits ≡ Closed → P
 unfolding is_closed
 waits_on same = absurd (subst is_closed (sym same) tt)
+
+-- to be told of arrivals opens nothing
+pub was_closed : (intake : Intake) → asks_again intake ≡ Closed → intake ≡ Closed
+was_closed Asks same = asks_on same
+was_closed Waits same = asks_on same
+was_closed Closed same = refl
 
 -- Closed by this step, or before it.
 pub stays_closed : {L : Type 0} (asked_old asked_now asked_new : List (Next L)) (was : Intake) → (was ≡ Closed → SaidNoneEver asked_old asked_now)
@@ -201,6 +234,16 @@ module _ {T C E X L : Type 0} (answers_of : T → List Incoming → List Outgoin
     keeps = ended.ends_so end_number going.places going.ends end (over (came_in going.sits.answers) going.places going.sits.holds) going.keeps;
     told = told_one tells teller_old teller_now teller_new going.ends end going.told told;
   }
+
+  -- fewer have come than it was asked, and so fewer than there are numbers
+  pub few_came : {K : Type 0} (tells : K → K → ℕ → Departure → Type 0) (asked_old asked_now : List (Next L)) (teller_old teller_now : K) (table : Table X L) (count : ℕ)
+      → length asked_now ≤ length asked_old + count → count < 2 ^ 64 - 1 → GoingNow tells asked_old asked_now teller_old teller_now table → table.came ≢ 2 ^ 64 - 1
+  few_came tells asked_old asked_now teller_old teller_now table count many less going all =
+      let counted = going.sits.holds.counted in
+      let within = few_in going.sits.answers in
+      let split = length_both asked_old going.sits.answers in
+      let now = ap length going.sits.asked in
+      omega (arith, counted, within, split, now, many, less, all)
 
   -- ---- it ends
 

@@ -61,7 +61,7 @@ pub record ServesMany {K L : Type 0} (tells : K → K → ℕ → Departure → 
 
 -- The last time that a connection was asked for, the answer was that none will come any more.
 abbrev pub SaidNoneEver : {L : Type 0} (asked_old asked_now : List (Next L)) → Type 0
-SaidNoneEver {L} asked_old asked_now = (before : List (Next L)) × (asked_now ≡ asked_old ++ before ++ NoneEver ∷ [])
+SaidNoneEver {L} asked_old asked_now = (before : List (Next L)) × (asked_now ≡ asked_old ++ (before ++ NoneEver ∷ []))
 
 -- a place more for what ends, or none
 abbrev pub Adds : {E : Type 0} → List (Option E) → List (Option E) → Type 0

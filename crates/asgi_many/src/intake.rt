@@ -1,6 +1,11 @@
 //! Whether a server asks for more connections.
-ghost use Rattle.std.specs.Prelude.{◌≡◌, IsTrue};
-ghost use Rattle.asgi_many.specs.declared.intake.Intake.TheVariants.{Closed};
+ghost use Rattle.std.specs.Prelude.{◌≡◌, ◌≢◌, ◌⊎◌, ◌-◌, ◌^◌, IsFalse, IsTrue};
+ghost use Rattle.asgi_many.specs.declared.intake.Intake.TheVariants.{Asks, Closed};
+ghost use Rattle.asgi_many.specs.Moves.{asks_again};
+ghost use Rattle.asgi_many.specs.Standing.{IsFull};
+
+use crate::table::Table;
+use asgi_ws::Line;
 
 /// Whether a server asks for more connections.
 #[derive(Clone, Copy, Debug, PartialEq, Eq)]
@@ -14,10 +19,13 @@ pub(crate) enum Intake {
 }
 
 impl Intake {
-    /// Whether the next connection is asked for, as soon as a seat is free.
-    pub(crate) fn asks(self) -> bool {
+    /// Whether the next connection is asked for: one may be there, and this table has a seat for it.
+    pub(crate) fn asks_for<X, L: Line>(self, table: &Table<X, L>) -> bool
+        ensures yes { IsTrue result → (self ≡ Asks) × ¬ (IsFull table.now) × ¬ (table.now.came ≡ 2 ^ 64 - 1) }
+        ensures no { IsFalse result → (self ≢ Asks) ⊎ IsFull table.now ⊎ (table.now.came ≡ 2 ^ 64 - 1) }
+    {
         match self {
-            Intake::Asks => true,
+            Intake::Asks => table.has_seat(),
             Intake::Waits => false,
             Intake::Closed => false,
         }
@@ -36,7 +44,7 @@ impl Intake {
 
     /// The same once a connection may have arrived.
     pub(crate) fn told_of_arrivals(self) -> Intake
-        ensures stays { result ≡ Closed → self ≡ Closed }
+        ensures { result ≡ asks_again self }
     {
         match self {
             Intake::Asks => Intake::Asks,

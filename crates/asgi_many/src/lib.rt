@@ -12,7 +12,7 @@ mod table;
 
 pub use asgi_conn::{Inline, Report, Rest, Runner, Standing};
 pub use asgi_desk::Teller;
-pub use reactor::{Next, Reactor, Ready, SeatMove};
+pub use reactor::{Move, Next, Reactor, Ready};
 pub use seat::{Cause, Departure, Ended, Newcomer};
 pub use serving::{Served, serve_many};
 pub use table::{Table, Turned};

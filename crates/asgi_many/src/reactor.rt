@@ -1,9 +1,9 @@
 //! Where connections come from, and which of them may go on.
 ghost use Rattle.std.specs.Prelude.{◌≡◌, ◌++◌, ◌∷◌, [], List};
 ghost use Rattle.asgi_many.specs.declared.reactor.Next.{Next};
-ghost use Rattle.asgi_many.specs.declared.reactor.SeatMove.{SeatMove};
-ghost use Rattle.asgi_many.specs.declared.reactor.SeatMove.TheVariants.{Freed};
-ghost use Rattle.asgi_many.specs.Moves.{taken_by};
+ghost use Rattle.asgi_many.specs.declared.reactor.Move.{Move};
+ghost use Rattle.asgi_many.specs.declared.reactor.Move.TheVariants.{Freed, Waited};
+ghost use Rattle.asgi_many.specs.Moves.{asked_by};
 
 use crate::seat::Newcomer;
 use asgi_conn::Rest;
@@ -20,6 +20,19 @@ pub enum Next<L> {
     NoneEver,
 }
 
+impl<L> Next<L> {
+    /// What its server did, if it was answered so.
+    pub fn as_move(&self) -> Move
+        ensures { result ≡ asked_by self.now }
+    {
+        match self {
+            Next::Arrived(_newcomer) => Move::Taken,
+            Next::NoneNow => Move::NoneYet,
+            Next::NoneEver => Move::NoneLeft,
+        }
+    }
+}
+
 /// What may be done next.
 #[derive(Clone, Copy, Debug, PartialEq, Eq)]
 pub enum Ready {
@@ -31,12 +44,18 @@ pub enum Ready {
     Arrivals,
 }
 
-/// What becomes of a seat.
+/// What a server does, as its reactor sees it.
 #[derive(Clone, Copy, Debug, PartialEq, Eq)]
-pub enum SeatMove {
-    /// A newcomer was given for it.
+pub enum Move {
+    /// It asked for a connection, and a newcomer was given, who takes a seat.
     Taken,
-    /// The line of the connection in it was given back.
+    /// It asked for a connection, and none was there yet.
+    NoneYet,
+    /// It asked for a connection, and none will come any more.
+    NoneLeft,
+    /// It waited, and was told what may be done next.
+    Waited(Ready),
+    /// It gave back the line of a connection that has ended, so a seat is free.
     Freed,
 }
 
@@ -49,8 +68,8 @@ pub trait Reactor {
     // How each call of `try_next` was answered, in order.
     ghost answers: { Self → List (Next Self.L) };
 
-    // What became of seats, in order.
-    ghost moves: { Self → List SeatMove };
+    // What its server did, in order.
+    ghost moves: { Self → List Move };
 
     // What each call keeps: of a reactor with a limit, say, how many connections it has given and will give at the most.
     ghost Kept: { Type 0 };
@@ -60,13 +79,13 @@ pub trait Reactor {
     /// The next connection, which takes this seat. It does not wait.
     fn try_next(&mut self, at: usize) -> Next<Self::L>
         ensures told { answers self.new ≡ answers self.old ++ result ∷ [] }
-        ensures moves { moves self.new ≡ moves self.old ++ taken_by result }
+        ensures moves { moves self.new ≡ moves self.old ++ asked_by result ∷ [] }
         ensures kept { kept self.new ≡ kept self.old };
 
     /// What may be done next. It may wait for it.
     fn wait(&mut self) -> Ready
         ensures told { answers self.new ≡ answers self.old }
-        ensures moves { moves self.new ≡ moves self.old }
+        ensures moves { moves self.new ≡ moves self.old ++ Waited result ∷ [] }
         ensures kept { kept self.new ≡ kept self.old };
 
     /// Whether the connection in this seat may take a turn now. Not while the end of a text waits to leave, for example.

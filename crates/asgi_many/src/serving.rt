@@ -1,11 +1,11 @@
 //! A server of many connections in one thread.
-ghost use Rattle.std.specs.Prelude.{◌≡◌, ◌⊎◌, ◌+◌, ◌-◌, ◌^◌, ◌<◌, ◌++◌, ◌∷◌, [], ℕ, List, Option, IfOk, IsErr, IsTrue, slice_get};
+ghost use Rattle.std.specs.Prelude.{◌≡◌, ◌⊎◌, ◌+◌, ◌-◌, ◌^◌, ◌<◌, ◌≤◌, ◌++◌, ◌∷◌, [], ℕ, List, Option, IfOk, IsErr, IsTrue, length, slice_get};
 ghost use Rattle.asgi_many.specs.declared.seat.Ended.{Ended};
 ghost use Rattle.slab.specs.Slab.{slab_len};
-ghost use Rattle.asgi_many.specs.declared.intake.Intake.TheVariants.{Closed};
+ghost use Rattle.asgi_many.specs.declared.intake.Intake.TheVariants.{Asks, Closed};
 ghost use Rattle.asgi_many.specs.declared.reactor.Next.TheVariants.{NoneEver};
-ghost use Rattle.asgi_many.specs.declared.reactor.SeatMove.TheVariants.{Freed};
-ghost use Rattle.asgi_many.specs.Moves.{KeepsSeats, Shifts};
+ghost use Rattle.asgi_many.specs.declared.reactor.Move.TheVariants.{Freed};
+ghost use Rattle.asgi_many.specs.Moves.{Frees, KeepsSeats, Steps};
 ghost use Rattle.asgi_many.specs.Standing.{IsFull};
 ghost use Rattle.asgi_many.specs.Serving.{Adds, Going, ServesMany, Sits, departure_of};
 
@@ -87,21 +87,23 @@ fn step<
     runner: &mut U,
     teller: &mut K,
 ) -> Intake
-    requires { (limits : Limits) × (asked : List (Next N.L)) × (told : K)
+    requires going { (limits : Limits) × (asked : List (Next N.L)) × (told : K)
         × Going A.Task.answers U.Pipes.Conn.ConnEnd U.Pipes.App.AppEnd U.conn U.began (A.answers calls.old.app.now) N.L.state limits state.now K.tells
         asked (N.answers reactor.old) told teller.old table.old }
+    requires few { ¬ (table.old.came ≡ 2 ^ 64 - 1) }
     ensures goes_on { (limits : Limits) (asked : List (Next N.L)) (told : K)
         → Going A.Task.answers U.Pipes.Conn.ConnEnd U.Pipes.App.AppEnd U.conn U.began (A.answers calls.old.app.now) N.L.state limits state.now K.tells
         asked (N.answers reactor.old) told teller.old table.old
         → Going A.Task.answers U.Pipes.Conn.ConnEnd U.Pipes.App.AppEnd U.conn U.began (A.answers calls.old.app.now) N.L.state limits state.now K.tells
         asked (N.answers reactor.new) told teller.new table.new }
+    ensures asked { length (N.answers reactor.new) ≤ length (N.answers reactor.old) + 1 }
     ensures no_more { result ≡ Closed → (N.answers reactor.new ≡ N.answers reactor.old ++ NoneEver ∷ []) ⊎ ((intake ≡ Closed) × (N.answers reactor.new ≡ N.answers reactor.old)) }
     ensures same { calls.new.app.now ≡ calls.old.app.now }
-    ensures seats { Shifts table.old.places (N.moves reactor.old) (N.moves reactor.new) (slab_len table.old.seats) (slab_len table.new.seats) }
+    ensures seats { Steps table.old.places (N.moves reactor.old) (N.moves reactor.new) (slab_len table.old.seats) (slab_len table.new.seats) intake result }
     ensures places { table.new.places ≡ table.old.places }
     ensures kept { N.kept reactor.new ≡ N.kept reactor.old }
 {
-    if intake.asks() && table.has_seat() {
+    if intake.asks_for(table) {
         return take_in::<X, A, N, U>(table, state, reactor);
     }
     match reactor.wait() {
@@ -130,8 +132,9 @@ fn take_in<X: Drop, A: Application, N: Reactor, U: Runner<A::Task, Exchange = X>
         → Sits A.Task.answers U.Pipes.Conn.ConnEnd U.Pipes.App.AppEnd U.conn U.began (A.answers app) N.L.state limits state.now asked (N.answers reactor.old) places table.old
         → (more : List (Option (Ended N.L))) × Adds places more
         × Sits A.Task.answers U.Pipes.Conn.ConnEnd U.Pipes.App.AppEnd U.conn U.began (A.answers app) N.L.state limits state.now asked (N.answers reactor.new) more table.new }
+    ensures asked { length (N.answers reactor.new) ≤ length (N.answers reactor.old) + 1 }
     ensures no_more { result ≡ Closed → N.answers reactor.new ≡ N.answers reactor.old ++ NoneEver ∷ [] }
-    ensures seats { Shifts table.old.places (N.moves reactor.old) (N.moves reactor.new) (slab_len table.old.seats) (slab_len table.new.seats) }
+    ensures seats { Steps table.old.places (N.moves reactor.old) (N.moves reactor.new) (slab_len table.old.seats) (slab_len table.new.seats) Asks result }
     ensures places { table.new.places ≡ table.old.places }
     ensures kept { N.kept reactor.new ≡ N.kept reactor.old }
 {
@@ -175,7 +178,7 @@ fn go_on<
         asked (N.answers reactor.new) told teller.new table.new }
     ensures asked { N.answers reactor.new ≡ N.answers reactor.old }
     ensures same { calls.new.app.now ≡ calls.old.app.now }
-    ensures seats { Shifts table.old.places (N.moves reactor.old) (N.moves reactor.new) (slab_len table.old.seats) (slab_len table.new.seats) }
+    ensures seats { Frees (N.moves reactor.old) (N.moves reactor.new) (slab_len table.old.seats) (slab_len table.new.seats) }
     ensures places { table.new.places ≡ table.old.places }
     ensures kept { N.kept reactor.new ≡ N.kept reactor.old }
 {
@@ -222,7 +225,7 @@ fn leave<
         asked (N.answers reactor.new) told teller.new table.new }
     ensures asked { N.answers reactor.new ≡ N.answers reactor.old }
     ensures same { calls.new.app.now ≡ calls.old.app.now }
-    ensures seats { Shifts table.old.places (N.moves reactor.old) (N.moves reactor.new) (slab_len table.old.seats) (slab_len table.new.seats) }
+    ensures seats { Frees (N.moves reactor.old) (N.moves reactor.new) (slab_len table.old.seats) (slab_len table.new.seats) }
     ensures places { table.new.places ≡ table.old.places }
     ensures kept { N.kept reactor.new ≡ N.kept reactor.old }
 {

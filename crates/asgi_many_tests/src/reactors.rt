@@ -10,7 +10,7 @@ use asgi_conn::{Host, Inline};
 use asgi_fakes::text_of;
 use asgi_io::History;
 use asgi_many::{
-    Departure, Newcomer, Next, Reactor, Ready, Report, Rest, SeatMove, Served, Teller, serve_many,
+    Departure, Move, Newcomer, Next, Reactor, Ready, Report, Rest, Served, Teller, serve_many,
 };
 use asgi_types::{Limits, State};
 use futures::task::{Doorbell, Solo};
@@ -30,7 +30,7 @@ struct Drawn {
     /// How often it was asked for a connection.
     asked: u64,
     told: History<Next<Line>>,
-    moves: History<SeatMove>,
+    moves: History<Move>,
 }
 
 impl Drawn {
@@ -59,6 +59,16 @@ impl Drawn {
             None => Next::NoneEver,
         }
     }
+
+    fn ready(&mut self) -> Ready
+        ensures { (self.new.told ≡ self.old.told) × (self.new.moves ≡ self.old.moves) }
+    {
+        let drawn = self.draws.draw();
+        if drawn % 4 == 0 {
+            return Ready::Arrivals;
+        }
+        Ready::Tick(((drawn >> 8) % self.seats.saturating_add(2)) as usize)
+    }
 }
 
 impl Reactor for Drawn {
@@ -75,18 +85,14 @@ impl Reactor for Drawn {
     fn try_next(&mut self, _at: usize) -> Next<Line> {
         let next = self.next();
         self.told = History::with(&self.told, &next);
-        if let Next::Arrived(_newcomer) = &next {
-            self.moves = History::with(&self.moves, &SeatMove::Taken);
-        }
+        self.moves = History::with(&self.moves, &next.as_move());
         next
     }
 
     fn wait(&mut self) -> Ready {
-        let drawn = self.draws.draw();
-        if drawn % 4 == 0 {
-            return Ready::Arrivals;
-        }
-        Ready::Tick(((drawn >> 8) % self.seats.saturating_add(2)) as usize)
+        let ready = self.ready();
+        self.moves = History::with(&self.moves, &Move::Waited(ready));
+        ready
     }
 
     fn may_go_on(&mut self, _at: usize, _line: &Line) -> bool {
@@ -99,7 +105,7 @@ impl Reactor for Drawn {
 
     fn close(&mut self, _at: usize, line: Line) {
         let _kept = self.closed.push(line);
-        self.moves = History::with(&self.moves, &SeatMove::Freed);
+        self.moves = History::with(&self.moves, &Move::Freed);
     }
 }
 

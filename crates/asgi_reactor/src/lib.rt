@@ -15,7 +15,7 @@ mod reactor;
 mod thread;
 
 pub use asgi_many::{
-    Departure, Next, Reactor, Ready, Rest, SeatMove, Served, Standing, Teller, serve_many,
+    Departure, Move, Next, Reactor, Ready, Rest, Served, Standing, Teller, serve_many,
 };
 pub use held::{Held, Took};
 pub use numbers::Numbers;

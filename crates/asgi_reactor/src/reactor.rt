@@ -1,6 +1,6 @@
 //! Where the connections of a port come from, and which of them may go on.
 ghost use Rattle.std.specs.Prelude.{◌≡◌, ◌⊎◌, ◌+◌, ◌++◌, ◌∷◌, [], ℕ, None, IfOk, IsFalse, IsSome, IsTrue};
-ghost use Rattle.asgi_many.specs.Moves.{taken_by};
+ghost use Rattle.asgi_many.specs.Moves.{asked_by};
 ghost use Rattle.asgi_many.specs.declared.reactor.Next.TheVariants.{NoneNow};
 ghost use Rattle.asgi_reactor.specs.Accepting.{IfArrived, IsNone, IsNoneEver, in_all};
 ghost use Rattle.asgi_reactor.specs.Faults.{HasFailed, IsOver};
@@ -15,7 +15,7 @@ use crate::queue::Queue;
 use crate::quota::Quota;
 use asgi_io::History;
 use asgi_leaving::LeavingLine;
-use asgi_many::{Newcomer, Next, Reactor, Ready, Rest, SeatMove};
+use asgi_many::{Move, Newcomer, Next, Reactor, Ready, Rest};
 use asgi_types::Peer;
 use asgi_ws::Wired;
 use mio::net::{TcpListener, TcpStream};
@@ -84,7 +84,7 @@ pub struct SocketReactor<'a, R: Clock> {
     time: Option<Instant>,
     why: Option<io::Error>,
     told: History<Next<PolledLine>>,
-    moves: History<SeatMove>,
+    moves: History<Move>,
 }
 
 impl<'a, R: Net + Clock> SocketReactor<'a, R> {
@@ -353,14 +353,12 @@ impl<R: Clock> SocketReactor<'_, R> {
         })
     }
 
-    /// A newcomer takes a seat.
-    fn note(&mut self, next: &Next<PolledLine>)
-        ensures moves { self.new.moves.items ≡ self.old.moves.items ++ taken_by next.now }
+    /// Records what its server did.
+    fn note(&mut self, made: Move)
+        ensures moves { self.new.moves.items ≡ self.old.moves.items ++ made ∷ [] }
         ensures same { self.new ≡ record self.old { moves = self.new.moves } }
     {
-        if let Next::Arrived(_newcomer) = next {
-            self.moves = History::with(&self.moves, &SeatMove::Taken);
-        }
+        self.moves = History::with(&self.moves, &made);
     }
 
     /// How long the system may be waited for.
@@ -445,6 +443,19 @@ impl<R: Clock> SocketReactor<'_, R> {
         self.queue.tick();
     }
 
+    /// What may be done next. It waits for it.
+    fn wait_for_one(&mut self) -> Ready
+        ensures { (self.new.told ≡ self.old.told) × (self.new.moves ≡ self.old.moves) × (self.new.left ≡ self.old.left) × (self.new.why ≡ self.old.why) }
+    {
+        for _round in 0..u64::MAX {
+            if let Some(ready) = self.next_ready() {
+                return ready;
+            }
+            self.gather();
+        }
+        Ready::Arrivals
+    }
+
     /// What may be done next, if it is known.
     fn next_ready(&mut self) -> Option<Ready>
         ensures { (self.new.told ≡ self.old.told) × (self.new.moves ≡ self.old.moves) × (self.new.left ≡ self.old.left) × (self.new.why ≡ self.old.why) }
@@ -506,7 +517,7 @@ impl<R: Clock> Reactor for SocketReactor<'_, R> {
 
     fn try_next(&mut self, at: usize) -> Next<PolledLine>
         ensures told { self.new.told.items ≡ self.old.told.items ++ result ∷ [] }
-        ensures moves { self.new.moves.items ≡ self.old.moves.items ++ taken_by result }
+        ensures moves { self.new.moves.items ≡ self.old.moves.items ++ asked_by result ∷ [] }
         ensures some { IfArrived result (λ _. (self.old.left ≡ self.new.left + 1) × (self.new.why ≡ None)) }
         ensures none { IsNone result → self.new.left ≡ self.old.left }
         ensures ever { IsNoneEver result → IsOver self.new.left self.new.why self.new.flag self.new.quota }
@@ -515,18 +526,14 @@ impl<R: Clock> Reactor for SocketReactor<'_, R> {
     {
         let next = self.accept(at);
         self.told = History::with(&self.told, &next);
-        self.note(&next);
+        self.note(next.as_move());
         next
     }
 
     fn wait(&mut self) -> Ready {
-        for _round in 0..u64::MAX {
-            if let Some(ready) = self.next_ready() {
-                return ready;
-            }
-            self.gather();
-        }
-        Ready::Arrivals
+        let ready = self.wait_for_one();
+        self.note(Move::Waited(ready));
+        ready
     }
 
     fn may_go_on(&mut self, at: usize, line: &PolledLine) -> bool {
@@ -546,6 +553,6 @@ impl<R: Clock> Reactor for SocketReactor<'_, R> {
 
     fn close(&mut self, at: usize, line: PolledLine) {
         self.queue.close(at, line);
-        self.moves = History::with(&self.moves, &SeatMove::Freed);
+        self.note(Move::Freed);
     }
 }

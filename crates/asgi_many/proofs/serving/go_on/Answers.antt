@@ -38,7 +38,7 @@ pub returns-in-Some-Idle-clause-seats : goal.returns-in-Some-Idle-clause-seats
 returns-in-Some-Idle-clause-seats g c = inl (c.rests.ensures.moves ∙ c.may_go_on.ensures.moves, c.look.ensures.sits)
 
 pub returns-in-Some-Over-clause-seats : goal.returns-in-Some-Over-clause-seats
-returns-in-Some-Over-clause-seats g c = rw (c.may_go_on.ensures.moves, c.look.ensures.sits, c.look.ensures.limits.1) at c.leave.ensures.seats
+returns-in-Some-Over-clause-seats g c = rw (c.may_go_on.ensures.moves, c.look.ensures.sits) at c.leave.ensures.seats
 
 pub returns-in-None-clause-asked : goal.returns-in-None-clause-asked
 returns-in-None-clause-asked g c = c.may_go_on.ensures.told

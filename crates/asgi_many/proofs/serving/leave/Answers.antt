@@ -43,7 +43,7 @@ pub returns-in-Idle-clause-seats : goal.returns-in-Idle-clause-seats
 returns-in-Idle-clause-seats g c = inl (c.rests.ensures.moves, omega (arith, c.in-Idle.ensures.sits))
 
 pub returns-in-Over-clause-seats : goal.returns-in-Over-clause-seats
-returns-in-Over-clause-seats g c = inr (inr (c.over.ensures.moves, c.in-Over.ensures.sits))
+returns-in-Over-clause-seats g c = inr (c.over.ensures.moves, c.in-Over.ensures.sits)
 
 pub returns-in-NoOne-clause-asked : goal.returns-in-NoOne-clause-asked
 returns-in-NoOne-clause-asked g c = refl

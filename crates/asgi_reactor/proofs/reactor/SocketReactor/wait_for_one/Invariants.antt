@@ -1,9 +1,10 @@
 use Rattle.std.proofs.Common.{◌≡◌}
-use Rattle.asgi_reactor.proofs.reactor.SocketReactorReactor.wait.Given as goal
+use Rattle.asgi_reactor.proofs.reactor.SocketReactor.wait_for_one.Given as goal
 
 abbrev pub invariant-loop-round : goal.invariant-loop-round
 invariant-loop-round g l = record {
   told : l.self.told ≡ l.fn.self.told;
   moves : l.self.moves ≡ l.fn.self.moves;
   left : l.self.left ≡ l.fn.self.left;
+  why : l.self.why ≡ l.fn.self.why;
 }
