@@ -1,6 +1,5 @@
 -- How many connections came, once a reactor was asked for one more.
 use Rattle.std.proofs.Common.{◌≡◌, ℕ, ◌+◌, List, [], ◌∷◌, ◌++◌, arith}
-use Rattle.asgi_many.specs.Serving.{came_in}
 use Rattle.asgi_many.specs.declared.reactor.Next.{Next}
 use Rattle.asgi_many.specs.declared.reactor.Next.TheVariants.{Arrived, NoneNow, NoneEver}
 use Rattle.asgi_reactor.specs.Accepting.{IfArrived, IsNone, in_all}
