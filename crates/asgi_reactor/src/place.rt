@@ -188,8 +188,9 @@ impl Place {
         self.is_silent || self.is_blocked
     }
 
-    /// Its connection rests. If nothing came since it did before, its memory for what is read ahead and for what it writes is given back. It ends as if its client were silent from here on if that sends the bytes of a head or a body too
-    /// slowly, or if the server ends.
+    /// Its connection rests. If nothing came since it did before, its memory for what is read ahead and for what it writes is given
+    /// back. From here on it ends as if its client were silent, if that sends the bytes of a head or a body too slowly, or if the
+    /// server ends.
     pub(crate) fn rests(&mut self, polled: &Polled, rest: Rest, clocked: Clocked) {
         let came = polled.came();
         if came == 0 {

@@ -12,7 +12,8 @@ use std::io;
 use std::random::RandomSource;
 
 /// Serves each connection that the reactor gives, as `serve_many` does, with each task run in the caller's thread: for
-/// applications that never block. The error is a want of memory, before the reactor was asked for anything.
+/// applications that never block. An error comes before the reactor was asked for anything: memory, or the random number that what
+/// runs a task asks the system for, was refused.
 pub fn serve_in_thread<
     H: AllocGlobal + RandomSource,
     A: Application,

@@ -2,10 +2,11 @@
 use asgi_conn::Report;
 use asgi_types::Peer;
 
-/// Is called as each connection ends, by the worker that served it, in its thread, whatever the other connections do. What
-/// it does is in no clause: a `Teller` gets each report once and in order, but only once all before it are there.
+/// What is called when a connection ends, in the thread that served it, whatever the other connections do. No clause has what it
+/// does, as one has what a `Teller` gets.
 pub trait OnEnd {
-    /// A connection of this client ended, with this report, and its line is dropped. Its worker waits meanwhile.
+    /// A connection of this client ended, with this report. The thread that served it waits meanwhile, and so do all connections that
+    /// it serves. A worker has closed the line by then; a thread of many connections closes it after this call.
     fn ended(&self, report: &Report, client: &Option<Peer>);
 }
 

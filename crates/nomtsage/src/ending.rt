@@ -13,9 +13,10 @@ pub enum Served {
     Each,
     /// Each that it gave, until it failed.
     ListenerFailed,
-    /// Each that it gave, until memory was refused for the report of one more.
+    /// With workers each that it gave, until memory was refused for the report of one more. In seats none, since memory was refused
+    /// for them.
     NoMemory,
-    /// None, since a worker was refused its thread.
+    /// None, since a thread was refused.
     NoThread,
     /// Not each, since 2^64 - 1 steps were taken.
     TooLong,

@@ -32,7 +32,7 @@ fn reason_of(kind: ErrorKind) -> &'static str {
 /// Why a server did not serve, or did not end well. Each text is one line.
 #[derive(Debug, Drop, Error)]
 pub enum ServeError {
-    /// The number of workers is not from 1 to 8. Nothing was begun.
+    /// The number of workers, or of `threads`, is not from 1 to 8. Nothing was begun.
     #[error("workers: {0} is not a number from 1 to 8")]
     BadWorkers(u64),
     /// The address can't be listened on. Nothing was begun.
@@ -56,10 +56,11 @@ pub enum ServeError {
     /// The application did not answer its stop within the limits. All connections were served.
     #[error("shutdown failed: no answer")]
     NoShutdown,
-    /// Memory was refused: for the workers, for the start, or for the report of one more connection.
+    /// Memory was refused: for the workers or the seats, for the start, or, with workers, for the report of one more connection.
+    /// Also if the system gives no random number, which what runs a task asks for.
     #[error("out of memory")]
     NoMemory,
-    /// A thread was refused to a worker or its application. No connection was accepted.
+    /// A thread was refused: to a worker or its application, or one of `threads`. No connection was accepted.
     #[error("no thread for a worker")]
     NoThread,
     /// More steps were taken than can be counted, so not each connection was served to its end.

@@ -22,7 +22,8 @@ use futures::task::{Context, Doorbell, Solo};
 use std::io;
 use std::time::Clock;
 
-/// How many idle turns of the limits that were set are a second without a move: about as many as `serve` makes in two.
+/// How many idle turns of the limits that were set are a second without a move. A connection with a worker makes about as many in
+/// two seconds.
 const TURNS_A_SECOND: u32 = 400;
 
 /// The limits of a connection in a seat, of which an idle turn takes a second.

@@ -115,7 +115,9 @@ impl<'a, K: Drop, E: Drop, G: Drop> Server<'a, K, E, G> {
         server
     }
 
-    /// Ends once this is pulled. Its socket is then asked for connections each millisecond, and does not wait for one.
+    /// Ends once this is pulled; `Stop` has what becomes of the connections. In seats it is looked at every 50 milliseconds at the
+    /// latest, unless a task holds the thread. With workers the socket is then asked for connections each millisecond, and does not
+    /// wait for one.
     pub fn stop(self, stop: &'a Stop) -> Self
         ensures set { result.stop ≡ Some stop.entry }
         ensures others { let was = self.entry in (result.address ≡ was.address) × (result.workers ≡ was.workers) × (result.limits ≡ was.limits)
@@ -126,7 +128,9 @@ impl<'a, K: Drop, E: Drop, G: Drop> Server<'a, K, E, G> {
         server
     }
 
-    /// Tells the report of each connection, once it and all before it have ended, in the order in which they came.
+    /// Gives the report of each connection to this teller, once, under its number. In seats it gets one when the connection ends,
+    /// under the number of its arrival. With workers it gets them in the order in which the connections came, each once all before
+    /// it have ended too.
     pub fn on_report<J: Teller<Report> + Drop>(self, teller: J) -> Server<'a, J, E, G>
         ensures set { result.on_report ≡ teller }
         ensures others { let was = self.entry in (result.address ≡ was.address) × (result.workers ≡ was.workers) × (result.limits ≡ was.limits)
@@ -154,7 +158,7 @@ impl<'a, K: Drop, E: Drop, G: Drop> Server<'a, K, E, G> {
         }
     }
 
-    /// Calls this as each connection ends, in the thread of its worker.
+    /// Calls this when a connection ends, in the thread that served it.
     pub fn on_end<F: OnEnd + Drop>(self, on_end: F) -> Server<'a, K, F, G>
         ensures set { result.on_end ≡ on_end }
         ensures others { let was = self.entry in (result.address ≡ was.address) × (result.workers ≡ was.workers) × (result.limits ≡ was.limits)

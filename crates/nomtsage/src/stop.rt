@@ -1,9 +1,13 @@
 //! What stops a server that runs.
 use std::sync::atomic::{AtomicBool, Ordering};
 
-/// Stops a server, from an application or another thread: once it is pulled, no connection is accepted any more. Those
-/// that were begun are served to their ends, within their limits; then the application is stopped, and the server returns.
-/// It stays pulled.
+/// Stops a server, from an application or another thread: once it is pulled, no connection is accepted any more. When those that
+/// are open have ended, the application is stopped, and the server returns. It stays pulled.
+///
+/// In seats, as a server serves by itself, a connection between two requests is ended at once, even if a part of the next head has
+/// come. The application of a session hears at once that the server goes away (a disconnect with 1001, RFC 6455, section 7.4.1).
+/// Exchanges and sessions go on for 30 seconds; from then on each is ended as soon as nothing moves in it. With workers each
+/// connection goes on until it ends by itself, within its limits.
 #[derive(Drop)]
 pub struct Stop {
     pulled: AtomicBool,
