@@ -97,13 +97,15 @@ CHANGES = [
     ("HANDLES", "none", "Wait", EVERY),
     ("tests/edits/high/is_four.edit", "two = 4", "two = 5", ["high/is_four.edit"]),
 ]
-# What a record may be (GOOD stands for its lines as they were), and what is then said of it.
+# What the record may be (GOOD stands for its lines as they were, and LOW for that of the lower crate), what is then said of it, and which edits are due.
 RECORDS = [
-    (b"\xff\xfe\n", "it can't be read"),
-    (b"is_three.edit\n", "line 1 can't be read"),
-    (b"<<<<<<< HEAD\n", "line 1 can't be read"),
-    (b"is_three.edit %s\nis_four.edit %s\n" % (b"0" * 32, b"0" * 32), "line 2 is out of order"),
-    (b"a_gone.edit %s\nGOOD" % (b"0" * 32), "it names a_gone.edit, which is not there"),
+    (b"\xff\xfe\n", "it can't be read", EVERY),
+    (b"<<<<<<< HEAD\nGOOD", "line 1 can't be read", EVERY),
+    (b"GOOD>>>>>>> a/branch\n", "line 4 can't be read", EVERY),
+    (b"high/is_three.edit\nLOW", "line 1 can't be read", BOTH),
+    (b"high/is_three.edit %s\nhigh/is_four.edit %s\nLOW" % (b"0" * 32, b"0" * 32), "line 2 is out of order", BOTH),
+    (b"high/a_gone.edit %s\nGOOD" % (b"0" * 32), "it names a_gone.edit, which is not there", BOTH),
+    (b"gone/a_gone.edit %s\nGOOD" % (b"0" * 32), "", []),
 ]
 
 
@@ -157,12 +159,11 @@ def try_small(rt):
             write(root, {"HANDLES": "Handles allowed: none.\n", "crates.txt": "small:\n", "crates/small/src/lib.rt": SMALL})
             for name, (why, old, new, _) in edits.items():
                 write(root, {f"tests/edits/small/{name}.edit": f"{why}\nfile: src/lib.rt\nold: {old}\nnew: {new}\n"})
-            tried = f"{root}/tests/edits/small/tried"
             if FORGED in edits:
                 [sums] = chosen(rt, root, record.read(f"{rt.KIT}/KIT-ID")).sums.values()
-                write(root, {"tests/edits/small/tried": f"{FORGED}.edit {sums[f'{FORGED}.edit']}\n"})
+                write(root, {record.PATH: f"small/{FORGED}.edit {sums[f'{FORGED}.edit']}\n"})
             _, said = must_fail.try_edits(rt, root, words_of(), COMMIT)
-            kept = {it[: -len(".edit")] for it in record.Record(tried).sums}
+            kept = {os.path.basename(it)[: -len(".edit")] for it in record.Record(root).sums}
         for name, (_, _, _, word) in edits.items():
             of_it = [it for it in said if f"small/{name}.edit:" in it]
             is_told = len(of_it) == bool(word) and all(word in it for it in of_it)
@@ -200,14 +201,15 @@ def faulty(rt):
     with tempfile.TemporaryDirectory(prefix="two-") as root:
         write(root, TWO)
         keep(chosen(rt, root))
-        good = record.read(f"{root}/tests/edits/high/tried")
-        for text, word in RECORDS:
-            write(root, {"tests/edits/high/tried": text.replace(b"GOOD", good.encode())})
+        good = record.read(f"{root}/{record.PATH}").encode()
+        for text, word, due in RECORDS:
+            write(root, {record.PATH: text.replace(b"GOOD", good).replace(b"LOW", good.splitlines(True)[-1])})
             said = io.StringIO()
             with contextlib.redirect_stdout(said):
                 found = due_of(chosen(rt, root))
-            is_told = said.getvalue().startswith(f"tests/edits/high/tried: {word}") and said.getvalue().count("\n") == 1
-            yield None if found == BOTH and is_told else f"of the record {text} is said: {said.getvalue()}; due are {found}"
+            lines = said.getvalue().splitlines()
+            is_told = all(it.startswith(f"{record.PATH}: {word}") for it in lines) and len(lines) == len({it.partition("/")[0] for it in due})
+            yield None if found == due and is_told else f"of the record {text} is said: {said.getvalue()}; due are {found}"
         said = io.StringIO()
         with contextlib.redirect_stdout(said):
             chosen(rt, root, commit=None)
@@ -277,7 +279,7 @@ def grouped():
     """Yields what is wrong, or None, of the groups in which a repository's edits are tried: each edit is in one, which has one at most of each function, and
     no more than may be tried at once."""
     folder = f"{must_fail.TOP}/tests/edits"
-    for name in sorted(os.listdir(folder)):
+    for name in sorted(it for it in os.listdir(folder) if os.path.isdir(f"{folder}/{it}")):
         crate = f"{must_fail.TOP}/crates/{name}"
         edits = sorted(f"{folder}/{name}/{it}" for it in os.listdir(f"{folder}/{name}") if it.endswith(".edit"))
         groups = must_fail.groups_of(edits, crate)
@@ -387,12 +389,13 @@ def gate():
 def lines():
     """Yields what is wrong, or None, of what a line of the record holds: the sums of the last two refusals, newest first."""
     with tempfile.TemporaryDirectory(prefix="lines-") as root:
-        kept = record.Record(f"{root}/tried")
+        write(root, {record.PATH: ""})
+        kept = record.Record(root)
         for new in "abbca":
-            kept.note("is_three.edit", new * 32)
+            kept.note("high/is_three.edit", new * 32)
         kept.write()
-        found = record.Record(f"{root}/tried").sums
-        yield None if found == {"is_three.edit": ["a" * 32, "c" * 32]} else f"of five refusals the record holds {found}"
+        found = record.Record(root).sums
+        yield None if found == {"high/is_three.edit": ["a" * 32, "c" * 32]} else f"of five refusals the record holds {found}"
 
 
 def main():

@@ -1,16 +1,17 @@
 #!/usr/bin/env python3
-"""must_fail.py [--all] [--read] [--warm] [--beside] [--jobs N] [--part I/N] [NAME..]
+"""must_fail.py [--all] [--read] [--warm] [--beside] [--jobs N] [--part I/N] [NAME..]: whether the prover refuses each edit.
 
 Tries the edits tests/edits/NAME/*.edit, of all crates or of those named, side by side. The prover must refuse each. The
 form of an edit, the verdict and its words are the toolchain's, by the code of `rt must-fail`. Beyond that, each edit
 begins with a line 'refused by: FUNCTION' or 'refused by: FUNCTION, clause NAME', and the prover must refuse that function
 itself, and that clause. The last line is 'N passed, M failed'.
 
-An edit is tried where it is due: where nothing that its last refusal stood on is told by the record tests/edits/NAME/tried,
+An edit is tried where it is due: where nothing that its last refusal stood on is told by the record tests/edits/tried,
 or something of that has changed (tests/record.py says what counts). Of the others one in twelve is drawn by the hash of the
-commit and tried too, so that a line of the record that says what is not so is found: it fails. A record that can't be read,
-or that names an edit which is not there, has all edits of its crate tried; where no commit's hash can be had, all edits of
-all crates are. What was refused is written into the record, with nothing else: commit it.
+commit and tried too, so that a line of the record that says what is not so is found: it fails. A line of the record that can't
+be read, or that names an edit which is not there, has all edits of its crate tried; where it tells no crate, or no commit's hash
+can be had, all edits of all crates are. What was refused is written into the record, with nothing else: commit it with the
+change that made it due.
 
 The prover takes each function by itself, by the contracts of what it calls. So it is asked for the functions that edits
 name alone, from nothing, over the crates below as `rt ci` proved and built them on this machine of the very same files; where
@@ -177,7 +178,7 @@ class Edits:
         self.failed += [f"crates.txt names no crate {it}" for it in asked.names if it not in known]
         folder = f"{root}/tests/edits"
         for name in sorted(os.listdir(folder)) if os.path.isdir(folder) else []:
-            if name not in known:
+            if name not in known and os.path.isdir(f"{folder}/{name}"):
                 self.failed.append(f"tests/edits/{name}: crates.txt names no such crate")
         for crate in crates:
             if asked.names and crate.name not in asked.names:
@@ -208,7 +209,10 @@ class Choice:
     def __init__(self, root, wanted, sums, asked, commit):
         self.root, self.asked, self.alone = root, asked, threading.Lock()
         self.sums = {crate: sums.of_edits(crate, edits) for crate, edits in wanted.items()}
-        self.records = {crate: record.Record(f"{root}/tests/edits/{crate.name}/tried") for crate in wanted}
+        self.record, self.gone = record.Record(root), {}
+        for name in [it for it in self.record.sums if not os.path.isfile(f"{root}/tests/edits/{it}")]:
+            self.gone.setdefault(name.partition("/")[0], os.path.basename(name))
+            del self.record.sums[name]
         if not commit and not asked.all:
             print("no hash of a commit can be had here, so all edits are tried", flush=True)
         standing = {f"{crate.name}/{it}": crate for crate in wanted if commit and not asked.all for it in self.standing_of(crate)}
@@ -222,28 +226,26 @@ class Choice:
 
     def standing_of(self, crate):
         """Returns the edits of a crate that stand by its record, all of which is told of edits that are there."""
-        kept, sums = self.records[crate], self.sums[crate]
-        gone = sorted(it for it in kept.sums if not os.path.isfile(f"{self.root}/tests/edits/{crate.name}/{it}"))
-        fault = kept.fault or (f"it names {gone[0]}, which is not there" if gone else None)
-        for it in gone:
-            del kept.sums[it]
+        fault = self.record.fault_of(crate.name)
+        if not fault and crate.name in self.gone:
+            fault = f"it names {self.gone[crate.name]}, which is not there"
         if fault:
-            print(f"tests/edits/{crate.name}/tried: {fault}, so all edits of {crate.name} are tried", flush=True)
+            print(f"{record.PATH}: {fault}, so all edits of {crate.name} are tried", flush=True)
             return []
-        return [it for it in sums if sums[it] in kept.sums.get(it, [])]
+        return [it for it, now in self.sums[crate].items() if now in self.record.sums.get(f"{crate.name}/{it}", [])]
 
     def note(self, crate, edits, refused):
         """Writes into the record what the tries of these edits came to. Returns which of them contradict it."""
-        kept, names = self.records[crate], [os.path.basename(it) for it in edits]
+        names = [f"{crate.name}/{os.path.basename(it)}" for it in edits]
         with self.alone:
             for name, is_refused in zip(names, refused):
-                if is_refused and os.path.isfile(f"{self.root}/tests/edits/{crate.name}/{name}"):
-                    kept.note(name, self.sums[crate][name])
+                if is_refused and os.path.isfile(f"{self.root}/tests/edits/{name}"):
+                    self.record.note(name, self.sums[crate][os.path.basename(name)])
                 elif not is_refused:
-                    kept.sums.pop(name, None)
+                    self.record.sums.pop(name, None)
             if not self.asked.warm:
-                kept.write()
-        return [not is_refused and f"{crate.name}/{name}" in self.drawn for name, is_refused in zip(names, refused)]
+                self.record.write()
+        return [not is_refused and name in self.drawn for name, is_refused in zip(names, refused)]
 
     def told(self):
         """Returns how many edits are tried, and how many stand by the record of which commit."""
@@ -351,7 +353,7 @@ class Trial:
             print(f"{label_of(crate, edit)}: refused, as it must be, with {len(edits) - 1} others ({each:.0f} s)", flush=True)
         found = [(True, "") if it in clear else self.attempt(crate, it) for it in edits]
         false = self.choice.note(crate, edits, [it[0] for it in found])
-        why = f"\nand yet tests/edits/{crate.name}/tried says that it was refused, with nothing changed since: that line is forged or stale"
+        why = f"\nand yet {record.PATH} says that it was refused, with nothing changed since: that line is forged or stale"
         return [(refused, text + why * is_false) for (refused, text), is_false in zip(found, false)]
 
     def groups(self):
@@ -455,8 +457,7 @@ def copy_repository(root, room, asked):
     folder = f"{root}/tests/edits"
     for name in sorted(os.listdir(folder)) if os.path.isdir(folder) else []:
         if os.path.isdir(f"{room}/crates/{name}"):
-            ignored = shutil.ignore_patterns("tried", "tried.new")
-            shutil.copytree(f"{folder}/{name}", f"{room}/crates/{name}/must-fail", ignore=ignored, dirs_exist_ok=True)
+            shutil.copytree(f"{folder}/{name}", f"{room}/crates/{name}/must-fail", dirs_exist_ok=True)
 
 
 def try_edits(rt, root, asked, commit):

@@ -1,8 +1,8 @@
 """The record of the edits that were refused, and what a refusal stands on.
 
-`tests/edits/NAME/tried` has a line for each edit of the crate NAME that the prover refused, in the order of their names:
-the name, and the sum of all that the refusal stood on, of its last two refusals. An edit with a sum that is the same now need not be tried again. A sum
-covers the toolchain's line, HANDLES, the edit, its crate's line of crates.txt with `src`, `specs` and `proofs`, and of the
+`tests/edits/tried` has a line for each edit that the prover refused, CRATE/NAME.edit, in the order of these words, so that two
+branches seldom change the same lines: the name, and the sum of all that the refusal stood on, of its last two refusals. An edit
+with a sum that is the same now need not be tried again. A sum covers the toolchain's line, HANDLES, the edit, its crate's line of crates.txt with `src`, `specs` and `proofs`, and of the
 crates below it what a check of this crate can see:
 
 - `specs`, whole;
@@ -28,7 +28,9 @@ ONE_IN = 12
 TOGETHER = 12
 # How many sums a line of the record holds at the most: machines with two toolchains take turns, so that the last one of each stands.
 AT_MOST = 2
-LINE = re.compile(r"([A-Za-z0-9_-][A-Za-z0-9_.-]*\.edit)((?: [0-9a-f]{32}){1,%d})" % AT_MOST)
+LINE = re.compile(r"(\w+/[A-Za-z0-9_-][A-Za-z0-9_.-]*\.edit)((?: [0-9a-f]{32}){1,%d})" % AT_MOST)
+# Where it stands in a repository.
+PATH = "tests/edits/tried"
 # A comment, a text, a character, a word, or one other character.
 TOKEN = re.compile(
     r"(?P<space>//[^\n]*|/\*.*?\*/|\s+)|b?r(?P<hashes>#*)\".*?\"(?P=hashes)|b?\"(?:[^\"\\]|\\.)*\"|b?'(?:[^'\\\n]|\\(?:x..|u\{[^}]*\}|.))'|\w+|.", re.S
@@ -167,25 +169,40 @@ class Sums:
 
 
 class Record:
-    """The record of one crate's edits."""
+    """The record of a repository's edits."""
 
-    def __init__(self, path):
-        self.path, self.sums, self.fault = path, {}, None
-        if not os.path.lexists(path):
-            return
+    def __init__(self, root):
+        # The sums of each edit, by CRATE/NAME.edit, and what is wrong with a crate's lines, or (by "") with the whole.
+        self.path, self.sums, self.faults = f"{root}/{PATH}", {}, {}
+        if os.path.lexists(self.path):
+            self.read()
+        for crate in self.faults:
+            self.drop(crate)
+
+    def read(self):
         try:
-            with open(path, encoding="utf-8") as it:
+            with open(self.path, encoding="utf-8") as it:
                 lines = it.read().splitlines()
         except (OSError, ValueError) as error:
-            self.fault = f"it can't be read ({getattr(error, 'strerror', None) or 'it is no text'})"
+            self.faults[""] = f"it can't be read ({getattr(error, 'strerror', None) or 'it is no text'})"
             return
+        last = ""
         for number, line in enumerate(lines, 1):
             found = LINE.fullmatch(line)
-            if not found or self.sums and found[1] <= max(self.sums):
-                self.fault = f"line {number} can't be read" if not found else f"line {number} is out of order"
-                self.sums = {}
-                return
-            self.sums[found[1]] = found[2].split()
+            if found and found[1] > last:
+                last = found[1]
+                self.sums[last] = found[2].split()
+                continue
+            crate = re.match(r"(?:(\w+)/)?", line)[1] or ""
+            self.faults.setdefault(crate, f"line {number} is out of order" if found else f"line {number} can't be read")
+
+    def drop(self, crate):
+        """Forgets what it has of this crate, or of all for ""."""
+        self.sums = {name: sums for name, sums in self.sums.items() if crate and not name.startswith(f"{crate}/")}
+
+    def fault_of(self, crate):
+        """Returns what is wrong with what it has of a crate, or None."""
+        return self.faults.get("") or self.faults.get(crate)
 
     def note(self, name, new):
         """Notes that an edit was refused with this sum."""
@@ -214,8 +231,8 @@ def commit_of(root):
 
 
 def last_tried(root):
-    """Returns the last commit that changed a record, with its day, or None."""
-    words = ["git", "log", "-1", "--format=%h of %cs", "--", "tests/edits/*/tried"]
+    """Returns the last commit that changed the record, with its day, or None."""
+    words = ["git", "log", "-1", "--format=%h of %cs", "--", PATH]
     ran = subprocess.run(words, cwd=root, capture_output=True, text=True, check=False)
     return ran.stdout.strip() or None
 
