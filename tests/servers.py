@@ -15,6 +15,7 @@ import contextlib
 import errno
 import hashlib
 import http.client
+import json
 import os
 import random
 import re
@@ -142,7 +143,7 @@ def needs(name):
 
 
 class Example(unittest.TestCase):
-    """The program of `crates/asgi_port_example`, as docs/APPLICATIONS.md has it."""
+    """The program of `crates/asgi_port_example`, which serves one connection after another in its own thread."""
 
     @needs("curl")
     def test_an_application_of_ones_own_is_served_on_a_port(self):
@@ -158,15 +159,6 @@ class Example(unittest.TestCase):
             self.assertEqual((told, ran.returncode), (b"1 exchanges, finished\n" * 2, 0))
         finally:
             ran.kill()
-
-    def test_the_document_has_its_application_its_main_and_its_line(self):
-        document = text_of("docs/APPLICATIONS.md")
-        folder = "crates/asgi_port_example/src"
-        application = re.search(r"^impl Application for .*?^}\n", text_of(f"{folder}/asked.rt"), re.M | re.S)[0]
-        body = re.search(r"^fn main\(.*?^}\n", text_of(f"{folder}/main.rt"), re.M | re.S)[0]
-        [line] = [line for line in text_of("crates.txt").splitlines(True) if line.startswith("asgi_port_example ")]
-        for text in (f"```rust\n{application}```\n", f"```rust\n{body}```\n", f"```text\n{line}```\n"):
-            self.assertIn(text, document)
 
 
 def log_of(errors):
@@ -551,8 +543,6 @@ class Served:
 class Guide(unittest.TestCase):
     """The programs of docs/GUIDE.md: what `make new` makes, and the applications that come after it."""
 
-    DOCUMENT = "docs/GUIDE.md"
-
     def assert_ended(self, served, *requests, how="finished"):
         """It printed nothing, wrote a line of the log for each connection, with so many requests each, and ended well."""
         output, lines, status = served.ended()
@@ -596,12 +586,6 @@ class Guide(unittest.TestCase):
         finally:
             ran.kill()
             ran.communicate()
-
-    def test_the_readme_has_the_program(self):
-        folder = "crates/asgi_new_example/src"
-        handler = re.search(r"^impl Handler for .*?^}\n", text_of(f"{folder}/items.rt"), re.M | re.S)[0]
-        body = re.search(r"^fn main\(.*?^}\n", text_of(f"{folder}/main.rt"), re.M | re.S)[0]
-        self.assertIn(f"```rust\n{handler}\n{body}```\n", text_of("README.md"))
 
     @needs("curl")
     def test_requests_share_a_counter(self):
@@ -727,14 +711,6 @@ class Guide(unittest.TestCase):
                 said = f"cannot listen on 127.0.0.1:{port}: the port is in use: {system_error(errno.EADDRINUSE)}"
                 self.assertEqual((status, output, log_of(errors)), (5, b"", [said]))
 
-    def test_the_guide_has_the_code(self):
-        """Each piece of Rust names its file in its first line, and stands in it as it is."""
-        pieces = re.findall(r"```rust\n// (crates/\S+)\n(.*?)```", text_of(self.DOCUMENT), re.DOTALL)
-        self.assertEqual(len(pieces), text_of(self.DOCUMENT).count("```rust\n"))
-        self.assertTrue(pieces)
-        for path, piece in pieces:
-            self.assertIn(piece, text_of(path), path)
-
 
 class Service:
     """The program of an example, which serves the first connection of a port by its standard input and output, as inetd(8) has it."""
@@ -806,10 +782,6 @@ class Digest(unittest.TestCase):
                 self.assertIs(line.sock, used)
             line.close()
         self.assertEqual(service.ended, (0, b""))
-
-    def test_the_documents_have_its_application(self):
-        application = re.search(r"^impl Application for .*?^}\n", text_of("crates/asgi_digest_example/src/digested.rt"), re.M | re.S)[0]
-        self.assertIn(f"```rust\n{application}```\n", text_of("docs/APPLICATIONS.md"))
 
 
 class Program(unittest.TestCase):
@@ -1105,41 +1077,48 @@ global
   maxconn 100
 {said}
 """
-DEPLOYING, GUIDE = "docs/DEPLOYING.md", "docs/GUIDE.md"
+OPERATING = "docs/OPERATING.md"
 
 
-def said_in(document, language, *others):
-    """The first text of this language in a document, with the places of each pattern filled by others: where to listen, and where the servers are."""
-    found = re.search(rf"```{language}\n(.*?)```", text_of(document), re.DOTALL)
-    if not found:
-        raise AssertionError(f"{document} has no text for {language}")
-    said = found[1]
+def said_in(language, *others):
+    """The text of docs/OPERATING.md in this language, with the places of each pattern filled by others: where to listen, and where the servers are."""
+    found = re.findall(rf"```{language}\n(.*?)```", text_of(OPERATING), re.DOTALL)
+    if len(found) != 1:
+        raise AssertionError(f"{OPERATING} has {len(found)} texts for {language}, and not one")
+    said = found[0]
     for pattern, new in others:
         said, count = re.subn(pattern, lambda _, new=new: new, said)
         if count != 1:
-            raise AssertionError(f"{document} has {count} places like {pattern}, and not one, to put others in")
+            raise AssertionError(f"{OPERATING} has {count} places like {pattern}, and not one, to put others in")
     return said
 
 
-def nginx_of_deploying(port, servers):
+def nginx(port, servers, *others):
+    """The text for nginx, before `Server` as it is by itself."""
     lines = "".join(f"  server 127.0.0.1:{it};\n" for it in servers)
-    return said_in(DEPLOYING, "nginx", (r"(  server 127\.0\.0\.1:\d+;\n)+", lines), (r"listen \d+;", f"listen 127.0.0.1:{port};"))
+    return said_in("nginx", (r"(  server 127\.0\.0\.1:\d+;\n)+", lines), (r"listen \d+;", f"listen 127.0.0.1:{port};"), *others)
 
 
-def nginx_of_the_guide(port, servers):
-    [server] = servers
-    return said_in(GUIDE, "nginx", (r"proxy_pass http://127\.0\.0\.1:\d+;", f"proxy_pass http://127.0.0.1:{server};"), (r"listen \d+;", f"listen 127.0.0.1:{port};"))
+def nginx_before_workers(port, servers):
+    """The same as the document has it for a server with workers: without the line that keeps connections."""
+    return nginx(port, servers, (r"  keepalive \d+;\n", ""))
 
 
-def haproxy_of_deploying(port, servers):
-    lines = "".join(f"  server s{number} 127.0.0.1:{it} maxconn 8\n" for number, it in enumerate(servers, 1))
-    return said_in(DEPLOYING, "haproxy", (r"(  server \w+ 127\.0\.0\.1:\d+ maxconn 8\n)+", lines), (r"bind :\d+", f"bind 127.0.0.1:{port}"))
+def haproxy(port, servers, most=10_000, *others):
+    """The text for haproxy, before `Server` as it is by itself."""
+    lines = "".join(f"  server s{number} 127.0.0.1:{it} maxconn {most}\n" for number, it in enumerate(servers, 1))
+    return said_in("haproxy", (r"(  server \w+ 127\.0\.0\.1:\d+ maxconn 10000\n)+", lines), (r"bind :\d+", f"bind 127.0.0.1:{port}"), *others)
+
+
+def haproxy_before_workers(port, servers):
+    """The same as the document has it for a server with workers: as many connections as workers, and none that is kept."""
+    return haproxy(port, servers, 2, (r"  mode http\n", "  mode http\n  option http-server-close\n"))
 
 
 class Proxy:
-    """nginx before servers on these ports, by the text of a document."""
+    """nginx before servers on these ports, by the text of docs/OPERATING.md."""
 
-    def __init__(self, *servers, words=nginx_of_deploying):
+    def __init__(self, *servers, words=nginx):
         self.folder, self.port = tempfile.TemporaryDirectory(), free_port()
         os.chmod(self.folder.name, 0o777)
         path = f"{self.folder.name}/conf"
@@ -1167,10 +1146,10 @@ class Proxy:
 
 
 class Haproxy(Proxy):
-    """haproxy before servers on these ports, as docs/DEPLOYING.md has it."""
+    """haproxy before servers on these ports, by the text of docs/OPERATING.md."""
 
-    def __init__(self, *servers):
-        super().__init__(*servers, words=haproxy_of_deploying)
+    def __init__(self, *servers, words=haproxy):
+        super().__init__(*servers, words=words)
 
     def text(self, said):
         return HAPROXY.format(said=said)
@@ -1179,69 +1158,65 @@ class Haproxy(Proxy):
         return ["haproxy", "-db", "-q", "-f", path]
 
 
-@needs("nginx")
-class BehindNginx(unittest.TestCase):
+class Behind:
+    """A proxy before `Server` as it is by itself, and before one with workers. Expected is what the server would answer without it."""
+
+    @staticmethod
+    def made(*servers):
+        """The proxy before `Server` as it is by itself."""
+        raise NotImplementedError
+
+    @staticmethod
+    def before_workers(*servers):
+        raise NotImplementedError
+
+    def told(self, served, *requests):
+        """Asserts that its connections had so many requests each, and that it ended well."""
+        output, lines, status = served.ended()
+        ends = sorted(int(re.fullmatch(r"connection \d+: (\d+) requests, finished", it)[1]) for it in lines)
+        self.assertEqual((output, ends, status), ("", sorted(requests), 0))
+
     def test_requests(self):
-        with Server("echo", 1) as server:
-            with Proxy(server.port) as proxy:
+        with Served("asgi_guide_example", 1, "orders") as served:
+            with self.made(served.port) as proxy:
                 line = http.client.HTTPConnection("127.0.0.1", proxy.port, timeout=SECONDS)
-                for body in (b"", b"abc", MEBIBYTE):
-                    line.request("POST", "/", body)
+                for count in (1, 2, 3):
+                    line.request("POST", "/", json.dumps({"count": count}))
                     answer = line.getresponse()
-                    self.assertEqual((answer.status, answer.read()), (200, body))
+                    self.assertEqual((answer.status, json.loads(answer.read())), (200, {"cents": 25 * count}))
                 line.close()
             # It keeps its own connection for all three.
-            self.assertEqual(server.ended(), (["1 3 finished"], "", 0))
+            self.told(served, 3)
 
-    def test_a_session(self):
-        with Server("wsecho", 1) as server:
-            with Proxy(server.port) as proxy:
-                self.assertEqual(Python.talk(self, f"ws://127.0.0.1:{proxy.port}/"), 3001)
-            self.assertEqual(server.ended(), (["1 1 finished"], "", 0))
+    def test_a_mebibyte(self):
+        with Served("upload_example", 1) as served:
+            with self.made(served.port) as proxy:
+                line = http.client.HTTPConnection("127.0.0.1", proxy.port, timeout=SECONDS)
+                line.request("POST", "/", MEBIBYTE)
+                self.assertEqual(line.getresponse().read().decode(), hashlib.sha256(MEBIBYTE).hexdigest())
+                line.close()
+            self.told(served, 1)
 
     def test_a_request_beside_a_session(self):
-        # The one that has the session is busy, so the request goes to the other one.
-        with Server("wsecho") as one, Server("wsecho") as other:
-            with Proxy(one.port, other.port) as proxy, socket.create_connection(("127.0.0.1", proxy.port), SECONDS) as session:
+        # One server of one thread has both.
+        with Served("chat_example", 2) as served:
+            with self.made(served.port) as proxy, socket.create_connection(("127.0.0.1", proxy.port), SECONDS) as session:
                 session.sendall(HANDSHAKE)
                 self.assertTrue(session.recv(4_096).startswith(b"HTTP/1.1 101 "))
                 line = http.client.HTTPConnection("127.0.0.1", proxy.port, timeout=SECONDS)
                 line.request("GET", "/")
-                self.assertEqual(line.getresponse().status, 404)
+                self.assertTrue(line.getresponse().read().startswith(b"<!doctype html>"))
                 line.close()
-                # A close without a code, and its answer (RFC 6455, section 5.5.1).
+                # A text, which comes back, and then a close without a code, and its answer (RFC 6455, sections 5.6 and 5.5.1).
+                session.sendall(b"\x81\x82\0\0\0\0hi")
+                self.assertEqual(session.recv(4_096), b"\x81\x02hi")
                 session.sendall(b"\x88\x80\0\0\0\0")
                 self.assertEqual(read_all(session), b"\x88\0")
-            for server in (one, other):
-                self.assertEqual(server.ended(), (["1 1 finished"], "", 0))
+            self.told(served, 1, 1)
 
-
-@needs("nginx")
-class BehindNginxByTheGuide(unittest.TestCase):
-    def test_requests(self):
+    def test_requests_by_workers(self):
         with Server("echo", 3) as server:
-            with Proxy(server.port, words=nginx_of_the_guide) as proxy:
-                line = http.client.HTTPConnection("127.0.0.1", proxy.port, timeout=SECONDS)
-                for body in (b"", b"abc", MEBIBYTE[:70_000]):
-                    line.request("POST", "/", body)
-                    answer = line.getresponse()
-                    self.assertEqual((answer.status, answer.read()), (200, body))
-                line.close()
-            # It makes a connection of its own for each.
-            self.assertEqual(server.ended(), ([f"{number} 1 finished" for number in (1, 2, 3)], "", 0))
-
-    def test_a_session(self):
-        with Server("wsecho", 1) as server:
-            with Proxy(server.port, words=nginx_of_the_guide) as proxy:
-                self.assertEqual(Python.talk(self, f"ws://127.0.0.1:{proxy.port}/"), 3001)
-            self.assertEqual(server.ended(), (["1 1 finished"], "", 0))
-
-
-@needs("haproxy")
-class BehindHaproxy(unittest.TestCase):
-    def test_requests(self):
-        with Server("echo", 3) as server:
-            with Haproxy(server.port) as proxy:
+            with self.before_workers(server.port) as proxy:
                 line = http.client.HTTPConnection("127.0.0.1", proxy.port, timeout=SECONDS)
                 for body in (b"", b"abc", MEBIBYTE):
                     line.request("POST", "/", body)
@@ -1251,16 +1226,16 @@ class BehindHaproxy(unittest.TestCase):
             # It closes its connection to the server after each response, and keeps that of the client.
             self.assertEqual(server.ended(), ([f"{number} 1 finished" for number in (1, 2, 3)], "", 0))
 
-    def test_a_session(self):
+    def test_a_session_by_workers(self):
         with Server("wsecho", 1) as server:
-            with Haproxy(server.port) as proxy:
+            with self.before_workers(server.port) as proxy:
                 self.assertEqual(Python.talk(self, f"ws://127.0.0.1:{proxy.port}/"), 3001)
             self.assertEqual(server.ended(), (["1 1 finished"], "", 0))
 
-    def test_a_request_beside_a_session(self):
+    def test_a_request_beside_a_session_by_workers(self):
         # The one that has the session is busy, so the request goes to the other one.
         with Server("wsecho") as one, Server("wsecho") as other:
-            with Haproxy(one.port, other.port) as proxy, socket.create_connection(("127.0.0.1", proxy.port), SECONDS) as session:
+            with self.before_workers(one.port, other.port) as proxy, socket.create_connection(("127.0.0.1", proxy.port), SECONDS) as session:
                 session.sendall(HANDSHAKE)
                 self.assertTrue(session.recv(4_096).startswith(b"HTTP/1.1 101 "))
                 line = http.client.HTTPConnection("127.0.0.1", proxy.port, timeout=SECONDS)
@@ -1272,6 +1247,28 @@ class BehindHaproxy(unittest.TestCase):
                 self.assertEqual(read_all(session), b"\x88\0")
             for server in (one, other):
                 self.assertEqual(server.ended(), (["1 1 finished"], "", 0))
+
+
+@needs("nginx")
+class BehindNginx(Behind, unittest.TestCase):
+    @staticmethod
+    def made(*servers):
+        return Proxy(*servers)
+
+    @staticmethod
+    def before_workers(*servers):
+        return Proxy(*servers, words=nginx_before_workers)
+
+
+@needs("haproxy")
+class BehindHaproxy(Behind, unittest.TestCase):
+    @staticmethod
+    def made(*servers):
+        return Haproxy(*servers)
+
+    @staticmethod
+    def before_workers(*servers):
+        return Haproxy(*servers, words=haproxy_before_workers)
 
 
 def has_websockets():
