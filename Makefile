@@ -17,7 +17,7 @@ run:
 check:
 	@python3 tools/crate.py check "$(NAME)"
 
-# The gate: proofs, wrong bodies, tests, the stored run, refused allocations, and the tests from outside (docs/GATE.md). Of the
+# The gate: proofs, wrong bodies, tests, the stored run, refused allocations, and the tests from outside (docs/CONTRIBUTING.md). Of the
 # wrong bodies it tries those that are due, and a few of the others.
 test:
 	@tests/run

@@ -407,7 +407,7 @@ class Little(unittest.TestCase):
 
     def test_little_memory_is_enough_or_ends_the_server_as_the_table_has_it(self):
         # A client is answered, or gets a beginning of that, or the response to a fault, or is closed; and each that is
-        # answered whole has its report (docs/SERVING.md).
+        # answered whole has its report (docs/OPERATING.md).
         whole = re.compile(rb"HTTP/1\.1 200 OK\r\n.*" + re.escape(GREETING), re.DOTALL)
         report = re.compile(r"\d+ ([01] finished|1 refused 500|[01] no-memory|[01] no-thread)")
         for spare in (0, 32, 128, 512, 2_048, 8_192):

@@ -1,11 +1,12 @@
 #!/usr/bin/env python3
-"""gate.py: the whole gate, part by part. `make test` runs it.
+"""gate.py [--parts]: the whole gate, part by part. `make test` runs it; --parts only prints what it would run, and what each part is for.
 
 Each part's output is shown as it comes. At the end stand the checks that each long part waited for (tests/chain.py), the
 minutes of each part, what each number of the sum is, and how many edits stand by the record; the last line is 'N passed,
 M failed', and the status is 0 only with none failed.
 """
 
+import ast
 import os
 import re
 import subprocess
@@ -26,13 +27,18 @@ PROVED = r"rt: (\w+)(?: proved| is kept: an earlier run on this machine proved t
 # What each part runs, and what its sum counts. The last one runs beside `rt ci`, from whose beginning on.
 PARTS = [
     ("crates in the layout", ["python3", "tests/layout.py"]),
+    ("documents read", ["python3", "tests/documents.py"]),
+    ("self-tests of the gate's scripts", ["python3", "tests/documents.py", "--self-test"]),
     ("sources read", ["python3", "tests/sources.py"]),
+    ("names in documents", ["python3", "tools/proved.py", "--check"]),
     ("self-tests of the gate's scripts", ["python3", "tests/sources.py", "--self-test"]),
+    ("self-tests of the gate's scripts", ["python3", "tools/proved.py", "--self-test"]),
     ("self-tests of the gate's scripts", ["python3", "tests/chain.py", "--self-test"]),
     ("self-tests of the gate's scripts", ["python3", "tests/instructions.py", "--self-test"]),
     ("self-tests of the gate's scripts", ["python3", "tests/edits_self_test.py"]),
     ("self-tests of the gate's scripts", ["python3", "tools/progress.py", "--self-test"]),
     ("self-tests of the gate's scripts", ["python3", "tools/crate.py", "--self-test"]),
+    ("what documents say of the sources", ["python3", "tests/said.py"]),
     ("edits that can be applied", ["python3", "tests/must_fail.py", "--read"]),
     ("rt ci", CI),
     ("runs with an allocation refused", ["python3", "tests/memory.py"]),
@@ -194,5 +200,20 @@ def main():
     return 1 if failed or not passed else 0
 
 
+def told_parts():
+    """Returns the parts, each with what it counts and the first line of what its script says of itself."""
+    lines = []
+    for what, words in PARTS:
+        said = "proves each crate and its tests, tries the edits of crates/*/must-fail, and runs the tests and the programs"
+        if words != CI:
+            with open(f"{TOP}/{words[1]}", encoding="utf-8") as it:
+                said = ast.get_docstring(ast.parse(it.read())).split("\n")[0]
+        lines += [" ".join(words), f"    {what}: {said}"]
+    return lines
+
+
 if __name__ == "__main__":
+    if sys.argv[1:] == ["--parts"]:
+        print(*told_parts(), sep="\n")
+        sys.exit(0)
     sys.exit(main())

@@ -89,7 +89,7 @@ RUNS = [
 LACKING = [b"stopped: no-memory\n", b"device fault\n"]
 # The servers: their words after COUNT, and what each of their clients is answered, with whatever state there is.
 SERVED = [(["hello", "1"], [HELLO]), (["hello", "2"], [HELLO]), (["life", "1"], [STARTED, UNSTARTED]), (["life", "2"], [STARTED, UNSTARTED])]
-# How a server ends: the status, and what it says then (docs/SERVING.md).
+# How a server ends: the status, and what it says then (docs/OPERATING.md).
 ENDS = {0: rb"", 3: rb"startup failed: .*\n", 4: rb"shutdown failed: .*\n", 5: rb"device fault\n"}
 # What a request gets whose application lacks memory, so that its call faults.
 FAULTED = b"HTTP/1.1 500 Internal Server Error\r\ncontent-length: 0\r\nconnection: close\r\n\r\n"

@@ -2,9 +2,13 @@
 """What other servers answer to the rows of asgi_hostile_tests: nginx, Apache httpd and uvicorn (with h11), as Debian has them.
 
 Usage: others.py. Prints a table: for each row its name, the statuses that its expected answer has, and those of each server, in
-order; `-` is no answer, and `..` a connection that is left open. It is no part of the gate: these servers change, and no
-expected value is taken from them. It installs what is missing by apt-get. nginx answers by `return 200`, Apache by a file, and
-uvicorn by an application that reads the whole body; the first two discard bodies.
+order. `200 200` to a row that ends with `/evil`: that request is answered as one of its own. `-` is no answer, `..` a connection
+that is left open, `cut` a response that ends early, and `(a text)` what is no response of HTTP/1.1. Apache's 404 is of a path that
+has no file. Then it prints the table of docs/HOSTILE.md: of each file how many rows it has, and for each server how many of
+those that are refused here it serves, and in how many of these it also answers `/evil`.
+It is no part of the gate: these servers change, and no expected value is taken from them. It installs what is missing by
+apt-get. nginx answers by `return 200`, Apache by a file, and uvicorn by an application that reads the whole body; the first two
+discard bodies.
 """
 
 import ast
@@ -124,12 +128,25 @@ def statuses(answer, closed):
     return " ".join(found or ["-"]) + ("" if closed or found else " ..")
 
 
+def is_served(answer):
+    """Whether the first request was answered by its content, in HTTP/1.1 or not."""
+    return answer.startswith(("200", "(a text)"))
+
+
+def sums(rows, answers, at):
+    """Of the rows that are refused here, how many the server at this place serves, and in how many of these `/evil` too."""
+    served = [got[at] for (_, _, wanted), got in zip(rows, answers) if wanted[0] in "45" and is_served(got[at])]
+    return f"{len(served)}, {sum(it.startswith('200 200') for it in served)}"
+
+
 def main():
     missing = [package for name, package in PACKAGES.items() if not shutil.which(name)]
     if missing:
-        subprocess.run(["apt-get", "install", "-y", "-qq", "--no-install-recommends", *missing], stdout=sys.stderr, check=False)
+        # None of them is to serve by itself.
+        how = {"stdout": sys.stderr, "check": False, "env": {**os.environ, "DEBIAN_FRONTEND": "noninteractive", "RUNLEVEL": "1"}}
+        subprocess.run(["apt-get", "install", "-y", "-qq", "--no-install-recommends", *missing], **how)
     with tempfile.TemporaryDirectory() as room, ThreadPoolExecutor(8) as pool:
-        found = []
+        found, told = [], []
         try:
             for name in PACKAGES:
                 found.append(Server(room, name))
@@ -141,6 +158,8 @@ def main():
                 print(f"| **{file}.rt** |" + " |" * (1 + len(found)))
                 for (name, _, wanted), got in zip(rows, answers):
                     print(f"| {name} | {wanted} | {' | '.join(got)} |")
+                told.append(f"| `{file}.rt` | {len(rows)} | {' | '.join(sums(rows, answers, at) for at in range(len(found)))} |")
+            print("", "| file | rows | " + " | ".join(PACKAGES) + " |", "|---" * (2 + len(found)) + "|", *told, sep="\n")
         finally:
             for it in found:
                 it.ran.terminate()

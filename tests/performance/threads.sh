@@ -110,16 +110,17 @@ P
 # Proves the peer and what it stands on, and builds it by LLVM: `rt ci` takes from its earlier runs what it proved of the same files.
 build() {
   local below
-  below=$(sed -n '/^asgi_io:/,/^asgi_server:/s/:.*//p' crates.txt)
+  below=$(PYTHONPATH=tools python3 -B -c 'import progress; print(*progress.below(progress.text_of("crates.txt"), "asgi_server"))')
   mkdir -p "$folder/crates/one_thread/src"
   for crate in $below; do
     mkdir "$folder/crates/$crate"
     cp -a "crates/$crate/src" "crates/$crate/specs" "$folder/crates/$crate"
     [ ! -d "crates/$crate/proofs" ] || cp -a "crates/$crate/proofs" "$folder/crates/$crate"
+    grep "^$crate:" crates.txt >>"$folder/crates.txt"
   done
   cp HANDLES "$folder"
   peer_text >"$folder/crates/one_thread/src/main.rt"
-  { sed -n '/^asgi_io:/,/^asgi_server:/p' crates.txt; echo 'one_thread status=2: asgi_types asgi_ws asgi_apps asgi_conn asgi_server futures'; } >"$folder/crates.txt"
+  echo 'one_thread status=2: asgi_types asgi_ws asgi_apps asgi_conn asgi_server futures' >>"$folder/crates.txt"
   (cd "$folder" && rt ci >"$folder/log" 2>&1) || { cat "$folder/log"; exit 1; }
 }
 [ -n "$peer" ] || { build; peer=$folder/crates/one_thread/out/one_thread; }
