@@ -1,8 +1,9 @@
 // A library for LD_PRELOAD: some calls of a kind fail, as a system does at a bad moment.
 //
-// FAIL_CALL names the call: socket, accept, setsockopt (where it turns TCP_NODELAY on), getsockname, or pthread_create. FAIL_ERROR is the
-// number of its error, FAIL_TIMES how many calls fail, 1 where it is not there, and FAIL_AFTER behind how many, 0 where it is not
-// there.
+// FAIL_CALL names the call: socket, accept, setsockopt (where it turns TCP_NODELAY on), getsockname, pthread_create, epoll_wait,
+// epoll_ctl, recv, send, shutdown, close (which closes all the same), or clock_gettime. FAIL_ERROR is the number of its error,
+// FAIL_TIMES how many calls fail, 1 where it is not there, and FAIL_AFTER behind how many, 0 where it is not there. Where
+// FAIL_WHILE names a file, calls fail only as long as it is there.
 #define _GNU_SOURCE
 #include <dlfcn.h>
 #include <errno.h>
@@ -11,15 +12,20 @@
 #include <pthread.h>
 #include <stdlib.h>
 #include <string.h>
+#include <sys/epoll.h>
 #include <sys/socket.h>
+#include <time.h>
+#include <unistd.h>
 
 static long made, passed;
 
 static int fails(const char *call)
 {
     const char *name = getenv("FAIL_CALL"), *times = getenv("FAIL_TIMES"), *error = getenv("FAIL_ERROR");
-    const char *after = getenv("FAIL_AFTER");
+    const char *after = getenv("FAIL_AFTER"), *during = getenv("FAIL_WHILE");
     if (!name || !error || strcmp(name, call) != 0)
+        return 0;
+    if (during && access(during, F_OK) != 0)
         return 0;
     if (after && passed < atol(after)) {
         passed++;
@@ -79,4 +85,61 @@ int pthread_create(pthread_t *thread, const pthread_attr_t *how, void *(*does)(v
     if (!next)
         next = (int (*)(pthread_t *, const pthread_attr_t *, void *(*)(void *), void *))dlsym(RTLD_NEXT, "pthread_create");
     return fails("pthread_create") ? errno : next(thread, how, does, with);
+}
+
+int epoll_wait(int poll, struct epoll_event *events, int most, int patience)
+{
+    static int (*next)(int, struct epoll_event *, int, int);
+    if (!next)
+        next = (int (*)(int, struct epoll_event *, int, int))dlsym(RTLD_NEXT, "epoll_wait");
+    return fails("epoll_wait") ? -1 : next(poll, events, most, patience);
+}
+
+int epoll_ctl(int poll, int what, int file, struct epoll_event *event)
+{
+    static int (*next)(int, int, int, struct epoll_event *);
+    if (!next)
+        next = (int (*)(int, int, int, struct epoll_event *))dlsym(RTLD_NEXT, "epoll_ctl");
+    return fails("epoll_ctl") ? -1 : next(poll, what, file, event);
+}
+
+ssize_t recv(int socket, void *room, size_t size, int flags)
+{
+    static ssize_t (*next)(int, void *, size_t, int);
+    if (!next)
+        next = (ssize_t (*)(int, void *, size_t, int))dlsym(RTLD_NEXT, "recv");
+    return fails("recv") ? -1 : next(socket, room, size, flags);
+}
+
+ssize_t send(int socket, const void *bytes, size_t size, int flags)
+{
+    static ssize_t (*next)(int, const void *, size_t, int);
+    if (!next)
+        next = (ssize_t (*)(int, const void *, size_t, int))dlsym(RTLD_NEXT, "send");
+    return fails("send") ? -1 : next(socket, bytes, size, flags);
+}
+
+int shutdown(int socket, int how)
+{
+    static int (*next)(int, int);
+    if (!next)
+        next = (int (*)(int, int))dlsym(RTLD_NEXT, "shutdown");
+    return fails("shutdown") ? -1 : next(socket, how);
+}
+
+int close(int file)
+{
+    static int (*next)(int);
+    if (!next)
+        next = (int (*)(int))dlsym(RTLD_NEXT, "close");
+    int closed = next(file);
+    return fails("close") ? -1 : closed;
+}
+
+int clock_gettime(clockid_t clock, struct timespec *time)
+{
+    static int (*next)(clockid_t, struct timespec *);
+    if (!next)
+        next = (int (*)(clockid_t, struct timespec *))dlsym(RTLD_NEXT, "clock_gettime");
+    return fails("clock_gettime") ? -1 : next(clock, time);
 }

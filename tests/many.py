@@ -1,25 +1,24 @@
 #!/usr/bin/env python3
-"""The built program with 1 to 8 workers: many clients at once, many connections, clients that are silent or go away.
+"""Each server of tests/servers_of.py: many clients at once, many connections, clients that are silent or go away.
 
-Usage: many.py PROGRAM. The last line is 'N passed, M failed', and the status is 0 only with none failed.
+Usage: many.py PROGRAM [TEST..]. The last line is 'N passed, M failed', and the status is 0 only with none failed.
 The clients are sockets of this script, Python's `http.client`, and wrk of Debian's packages, which is installed by apt-get
 where it is missing. Each server is started by its test, and has ended at its end.
 """
 
 import http.client
 import os
-import re
 import shutil
 import socket
 import struct
 import subprocess
 import sys
 import time
-import unittest
 from concurrent.futures import ThreadPoolExecutor
 
-import servers
-from servers import GET, GREETING, HANDSHAKE, SECONDS, Server, read_all, run
+import servers_of
+from servers import GET, GREETING, HANDSHAKE, SECONDS, free_port, read_all, run
+from servers_of import FOUR, ONE, WORKERS, Running, asks, well
 
 # So many clients at once, and so many requests of each.
 CLIENTS, REQUESTS = 64, 20
@@ -27,8 +26,12 @@ CLIENTS, REQUESTS = 64, 20
 MOST = 1000
 
 
+# What each server is tried with: the numbers of workers, and of threads.
+SIZES = {WORKERS: [1, 2, 8], ONE: ["threads=1", "slots=10000"], FOUR: ["threads=2", "threads=8"]}
+
+
 def finished(count, exchanges):
-    return [f"{number} {exchanges} finished" for number in range(1, count + 1)]
+    return well(*[f"{exchanges} finished"] * count)
 
 
 def greeted(server, requests=1):
@@ -71,36 +74,33 @@ def echoed(server, messages, name):
     return right if head.startswith(b"HTTP/1.1 101 ") else 0
 
 
-def status_of(server):
-    """The descriptors that the server has open, and its memory in kilobytes."""
-    with open(f"/proc/{server.ran.pid}/status", encoding="ascii") as it:
-        memory = int(re.search(r"^VmRSS:\s+(\d+) kB$", it.read(), re.M)[1])
-    return len(os.listdir(f"/proc/{server.ran.pid}/fd")), memory
-
-
-class Many(unittest.TestCase):
+@asks(ONE, FOUR, WORKERS)
+class Many:
     """Many clients at once."""
 
+    def serves(self, app, count, *settings):
+        return Running(self.server, free_port(), app, count, *settings)
+
     def test_clients_that_keep_their_connections(self):
-        for workers in (1, 2, 8):
-            with self.subTest(workers=workers), Server("hello", CLIENTS, workers=workers) as server:
+        for size in SIZES[self.server]:
+            with self.subTest(size=size), self.serves("hello", CLIENTS, size) as server:
                 with ThreadPoolExecutor(CLIENTS) as pool:
                     right = list(pool.map(lambda _: greeted(server, REQUESTS), range(CLIENTS)))
                 self.assertEqual(right, [REQUESTS] * CLIENTS)
-                self.assertEqual(server.ended(), (finished(CLIENTS, REQUESTS), "", 0))
+                self.assertEqual(server.ended(), finished(CLIENTS, REQUESTS))
 
     def test_sessions(self):
-        for workers in (2, 8):
-            with self.subTest(workers=workers), Server("wsecho", CLIENTS, workers=workers) as server:
+        for size in SIZES[self.server][-2:]:
+            with self.subTest(size=size), self.serves("wsecho", CLIENTS, size) as server:
                 with ThreadPoolExecutor(CLIENTS) as pool:
                     right = list(pool.map(lambda name: echoed(server, REQUESTS, name), range(CLIENTS)))
                 self.assertEqual(right, [REQUESTS + 1] * CLIENTS)
-                self.assertEqual(server.ended(), (finished(CLIENTS, 1), "", 0))
+                self.assertEqual(server.ended(), finished(CLIENTS, 1))
 
     def test_as_many_are_served_at_once_as_there_are_workers(self):
         # Each client but the last holds a worker; the last one finds one that is free.
         for workers in (2, 8):
-            with self.subTest(workers=workers), Server("hello", workers, workers=workers) as server:
+            with self.subTest(workers=workers), self.serves("hello", workers, workers) as server:
                 held = [server.connect() for _ in range(workers - 1)]
                 for line in held:
                     line.sendall(GET[:-2])
@@ -110,26 +110,24 @@ class Many(unittest.TestCase):
                     line.shutdown(socket.SHUT_WR)
                     self.assertTrue(read_all(line).endswith(GREETING))
                     line.close()
-                self.assertEqual(server.ended(), (finished(workers, 1), "", 0))
+                self.assertEqual(server.ended(), finished(workers, 1))
 
     def test_reports_are_told_in_order_as_soon_as_those_before_them_are_there(self):
-        with Server("hello", 3, workers=2) as server:
+        with self.serves("hello", 3) as server:
             first = server.connect()
             first.sendall(GET[:-2])
             time.sleep(0.2)
             self.assertEqual(greeted(server) + greeted(server), 2)
             time.sleep(0.2)
-            os.set_blocking(server.ran.stdout.fileno(), False)
-            self.assertIn(server.ran.stdout.read(), (None, b""))
-            os.set_blocking(server.ran.stdout.fileno(), True)
+            self.assertEqual(server.lines, [])
             first.sendall(GET[-2:])
             first.shutdown(socket.SHUT_WR)
             self.assertTrue(read_all(first).endswith(GREETING))
             first.close()
-            self.assertEqual(server.ended(), (finished(3, 1), "", 0))
+            self.assertEqual(server.ended(), finished(3, 1))
 
     def test_clients_that_go_away_or_send_what_is_no_request(self):
-        with Server("hello", CLIENTS, workers=8) as server:
+        with self.serves("hello", CLIENTS) as server:
 
             def client(number):
                 if number % 3 == 0:
@@ -144,53 +142,47 @@ class Many(unittest.TestCase):
 
             with ThreadPoolExecutor(16) as pool:
                 self.assertTrue(all(pool.map(client, range(CLIENTS))))
-            lines, errors, status = server.ended()
-            self.assertEqual((errors, status), ("", 0))
-            self.assertEqual([int(line.split()[0]) for line in lines], list(range(1, CLIENTS + 1)))
-            ends = [line.partition(" ")[2] for line in lines]
-            self.assertEqual(ends.count("1 finished"), (CLIENTS + 2) // 3)
-            self.assertEqual(ends.count("0 refused 400"), CLIENTS // 3)
+            ended = server.ended()
+            self.assertEqual((len(ended.reports), ended.others, ended.status), (CLIENTS, [], 0))
+            self.assertEqual(ended.reports.count("1 finished"), (CLIENTS + 2) // 3)
+            self.assertEqual(ended.reports.count("0 refused 400"), CLIENTS // 3)
 
     def test_ten_thousand_connections_leave_descriptors_and_memory_as_they_were(self):
         for _ in range(10):
-            with Server("hello", MOST, workers=8) as server:
+            with self.serves("hello", MOST, *SIZES[self.server][-1:]) as server:
                 with ThreadPoolExecutor(16) as pool:
                     self.assertEqual(sum(pool.map(lambda _: greeted(server), range(MOST // 4))), MOST // 4)
                     time.sleep(0.1)
-                    before = status_of(server)
+                    before = server.descriptors(), server.memory()
                     self.assertEqual(sum(pool.map(lambda _: greeted(server), range(MOST // 2))), MOST // 2)
                     time.sleep(0.1)
-                    after = status_of(server)
+                    after = server.descriptors(), server.memory()
                     # The reports are kept to the end: some 200 bytes each.
                     self.assertLessEqual(after[0], before[0] + 1)
                     self.assertLess(after[1], before[1] + 1024)
                     self.assertEqual(sum(pool.map(lambda _: greeted(server), range(MOST // 4))), MOST // 4)
-                self.assertEqual(server.ended(), (finished(MOST, 1), "", 0))
+                self.assertEqual(server.ended(), finished(MOST, 1))
 
     def test_wrk(self):
         if not shutil.which("wrk"):
             self.skipTest("there is no wrk")
         # Its first connection carries nothing: it ends where wrk has found the address.
-        for workers, clients in ((8, 8), (8, 16), (2, 8)):
-            with self.subTest(workers=workers, clients=clients), Server("hello", clients + 1, workers=workers) as server:
-                status, output, _ = run(["wrk", "-t1", f"-c{clients}", "-d1s", server.url])
-                self.assertEqual(status, 0)
-                self.assertNotIn(b"Non-2xx", output)
-                lines, errors, status = server.ended()
-                self.assertEqual((len(lines), errors, status), (clients + 1, "", 0))
-                self.assertEqual([int(line.split()[0]) for line in lines], list(range(1, clients + 2)))
-                self.assertGreater(sum(int(line.split()[1]) for line in lines), 100)
+        for size in SIZES[self.server][-2:]:
+            for clients in (8, 16):
+                with self.subTest(size=size, clients=clients), self.serves("hello", clients + 1, size) as server:
+                    status, output, _ = run(["wrk", "-t1", f"-c{clients}", "-d1s", server.url])
+                    self.assertEqual(status, 0)
+                    self.assertNotIn(b"Non-2xx", output)
+                    ended = server.ended()
+                    self.assertEqual((len(ended.reports), ended.others, ended.status), (clients + 1, [], 0))
+                    self.assertGreater(sum(int(it.split()[0]) for it in ended.reports), 100)
 
 
 def main():
-    servers.PROGRAM = os.path.abspath(sys.argv[1])
+    servers_of.DEMO = os.path.abspath(sys.argv[1])
     if not shutil.which("wrk"):
         subprocess.run(["apt-get", "install", "-y", "-q", "wrk"], stdout=subprocess.DEVNULL, stderr=subprocess.DEVNULL, check=False)
-    suite = unittest.defaultTestLoader.loadTestsFromModule(sys.modules[__name__])
-    result = unittest.TextTestRunner(stream=sys.stdout, verbosity=2).run(suite)
-    failed = len({getattr(test, "test_case", test).id() for test, _ in [*result.failures, *result.errors]})
-    print(f"{result.testsRun - failed - len(result.skipped)} passed, {failed} failed")
-    return 1 if failed or not result.testsRun else 0
+    return servers_of.run_tests(__name__)
 
 
 if __name__ == "__main__":

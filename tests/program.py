@@ -1,21 +1,26 @@
-"""The built program through real pipes, files and devices.
+"""What each server of tests/servers_of.py answers to what is sent at once and byte by byte, and the program over pipes, files and devices.
 
-Usage: program.py PROGRAM. The last line is 'N passed, M failed', and the status is 0 only with none failed.
+Usage: program.py PROGRAM [TEST..]. The last line is 'N passed, M failed', and the status is 0 only with none failed.
 Every expected text is written out here, from the documentation of the program.
 """
 
 import array
+import contextlib
 import fcntl
 import os
 import select
+import socket
 import subprocess
 import sys
 import tempfile
 import termios
+import threading
 import time
-import unittest
 
-PROGRAM = ""
+import servers_of
+from servers import free_port
+from servers_of import FOUR, ONCE, ONE, WORKERS, Running, asks
+
 
 GET = b"GET / HTTP/1.1\r\nHost: a\r\n\r\n"
 HELLO = (
@@ -39,7 +44,7 @@ def run(words, given=b"", **options):
     if "stdin" not in options:
         options["input"] = given
     options.setdefault("stdout", subprocess.PIPE)
-    done = subprocess.run([PROGRAM] + words, stderr=subprocess.PIPE, timeout=60, check=False, **options)
+    done = subprocess.run([servers_of.DEMO] + words, stderr=subprocess.PIPE, timeout=60, check=False, **options)
     return done.returncode, done.stdout, done.stderr
 
 
@@ -53,12 +58,74 @@ def echoed(body):
     return ECHO_HEAD + (b"%x\r\n%s\r\n" % (len(body), body) if body else b"") + LAST_CHUNK
 
 
+def answer_of(line, given):
+    """What a connection is answered to what is sent at once; its side ends then, and what comes is read meanwhile."""
+    sends = threading.Thread(target=send_all, args=(line, given))
+    sends.start()
+    answer = b""
+    while piece := line.recv(1 << 16):
+        answer += piece
+    sends.join()
+    return answer
+
+
+def send_all(line, given):
+    """Sends all, and ends this side. A server that has refused what came takes no more of it."""
+    try:
+        line.sendall(given)
+        line.shutdown(socket.SHUT_WR)
+    except OSError:
+        pass
+
+
+class Conversation:
+    """A server of one connection, and its client that writes and reads by turns."""
+
+    def __init__(self, server, app):
+        self.running = Running(server, free_port(), app)
+
+    def __enter__(self):
+        self.line = self.running.__enter__().connect()
+        self.line.setsockopt(socket.IPPROTO_TCP, socket.TCP_NODELAY, 1)
+        return self
+
+    def __exit__(self, *_):
+        self.line.close()
+        self.running.__exit__()
+
+    def write(self, given):
+        self.line.sendall(given)
+
+    def write_alone(self, given):
+        """Writes what the server reads before the next one comes, as far as a client can see: it is at the other side, and a while has gone."""
+        self.line.sendall(given)
+        time.sleep(0.002)
+
+    def read(self, length):
+        """Reads so many bytes, or fewer where the connection ends before."""
+        found = b""
+        while len(found) < length and (more := self.line.recv(length - len(found))):
+            found += more
+        return found
+
+    def end(self):
+        """Ends this side, and gives the status, the rest of the answers, and the other lines that were printed."""
+        self.line.shutdown(socket.SHUT_WR)
+        rest = self.read(1 << 30)
+        ended = self.running.ended()
+        return ended.status, rest, "".join(ended.others).encode()
+
+    def ended_by_itself(self):
+        """Whether the server has ended well, with the client's side open."""
+        return self.running.ended().status == 0
+
+
 class Talk:
     """The program, with a client that writes and reads by turns."""
 
     def __init__(self, app):
         kinds = {"stdin": subprocess.PIPE, "stdout": subprocess.PIPE, "stderr": subprocess.PIPE}
-        self.program = subprocess.Popen([PROGRAM, "once", app], **kinds)
+        self.program = subprocess.Popen([servers_of.DEMO, "once", app], **kinds)
 
     def __enter__(self):
         return self
@@ -69,6 +136,15 @@ class Talk:
 
     def write(self, given):
         os.write(self.program.stdin.fileno(), given)
+
+    def write_alone(self, given):
+        """Writes what the program reads before the next one comes."""
+        self.write(given)
+        wait_until_read(self.program.stdin.fileno())
+
+    def ended_by_itself(self):
+        """Whether the program has ended well, with its input open."""
+        return self.program.wait(timeout=60) == 0
 
     def read(self, length):
         """Reads so many bytes, and no more of what is there."""
@@ -98,8 +174,33 @@ def wait_until_read(pipe):
             raise TimeoutError("the program does not read")
 
 
-class Once(unittest.TestCase):
-    """`once`, with each application."""
+@asks(ONE, FOUR, WORKERS, ONCE)
+class Answers:
+    """What is answered by each application."""
+
+    def each(self, rows):
+        """Sees that what each row gives to an application is answered so, by a connection of its own."""
+        for app in sorted({app for app, _, _ in rows}):
+            some = [(given, wanted) for name, given, wanted in rows if name == app]
+            with contextlib.ExitStack() as room:
+                server = room.enter_context(Running(self.server, free_port(), app, len(some))) if self.server != ONCE else None
+                for given, wanted in some:
+                    with self.subTest(app=app, given=given[:80]):
+                        self.assertEqual(self.answer(server, app, given), wanted)
+                if server:
+                    ended = server.ended()
+                    self.assertEqual((len(ended.reports), ended.others, ended.status), (len(some), [], 0))
+
+    def answer(self, server, app, given):
+        if not server:
+            status, output, errors = run(["once", app], given)
+            self.assertEqual((status, errors), (0, b""))
+            return output
+        with server.connect() as line:
+            return answer_of(line, given)
+
+    def talk(self, app):
+        return Talk(app) if self.server == ONCE else Conversation(self.server, app)
 
     def test_answers_each_form_of_a_request(self):
         close = HELLO.replace(b"chunked\r\n\r\n6", b"chunked\r\nconnection: close\r\n\r\n6")
@@ -131,9 +232,7 @@ class Once(unittest.TestCase):
             (b"\r\n", b""),
             (b"GE", b""),
         ]
-        for given, wanted in rows:
-            with self.subTest(given=given[:60]):
-                self.assertEqual(run(["once", "hello"], given), (0, wanted, b""))
+        self.each([("hello", given, wanted) for given, wanted in rows])
 
     def test_answers_by_the_application_that_is_named(self):
         chunks = b"4\r\nabcd\r\n5\r\nefghi\r\n"
@@ -168,9 +267,7 @@ class Once(unittest.TestCase):
                 ECHO_HEAD + 2 * (b"4000\r\n" + large + b"\r\n") + LAST_CHUNK + echoed(b""),
             ),
         ]
-        for app, given, wanted in rows:
-            with self.subTest(app=app, given=given[:80]):
-                self.assertEqual(run(["once", app], given), (0, wanted, b""))
+        self.each(rows)
 
     def test_keeps_to_the_usual_limits(self):
         # 64 fields and 16 KiB of a head, with what stands before and after (RFC 6585, section 5), 256 bytes of a size line, 16 KiB
@@ -209,38 +306,33 @@ class Once(unittest.TestCase):
             ("65 trailer fields", "echo", chunked + b"0\r\n" + few + many * 2 + b"\r\n", bad),
             ("10 MiB of a trailer", "echo", chunked + b"0\r\nx: " + ten, bad),
         ]
-        for name, app, given, wanted in rows:
-            with self.subTest(name):
-                self.assertEqual(run(["once", app], given), (0, wanted, b""))
+        self.each([(app, given, wanted) for _, app, given, wanted in rows])
 
     def test_answers_a_request_that_comes_byte_by_byte(self):
-        with Talk("hello") as talk:
+        with self.talk("hello") as talk:
             for place in range(len(GET)):
-                talk.write(GET[place : place + 1])
-                if place + 1 < len(GET):
-                    wait_until_read(talk.program.stdin.fileno())
-                    self.assertIsNone(talk.program.poll())
-            # The input stays open: an answer waits for no more of it.
+                talk.write_alone(GET[place : place + 1])
+            # The client's side stays open: an answer waits for no more of it.
             self.assertEqual(talk.read(len(HELLO)), HELLO)
             self.assertEqual(talk.end(), (0, b"", b""))
 
     def test_keeps_a_connection_alive(self):
-        with Talk("hello") as talk:
+        with self.talk("hello") as talk:
             for _ in range(5):
                 talk.write(GET)
                 self.assertEqual(talk.read(len(HELLO)), HELLO)
             self.assertEqual(talk.end(), (0, b"", b""))
 
     def test_ends_after_an_answer_that_closes(self):
-        with Talk("hello") as talk:
+        with self.talk("hello") as talk:
             talk.write(GET.replace(b"\r\n\r\n", b"\r\nConnection: close\r\n\r\n"))
             close = HELLO.replace(b"chunked\r\n\r\n6", b"chunked\r\nconnection: close\r\n\r\n6")
             self.assertEqual(talk.read(len(close) + 1), close)
-            # It has ended though its input is open.
-            self.assertEqual(talk.program.wait(timeout=60), 0)
+            # It has ended though the client's side is open.
+            self.assertTrue(talk.ended_by_itself())
 
     def test_tells_a_client_that_waits_to_go_on(self):
-        with Talk("echo") as talk:
+        with self.talk("echo") as talk:
             talk.write(post(b"Expect: 100-continue\r\nContent-Length: 3\r\n"))
             self.assertEqual(talk.read(len(CONTINUE)), CONTINUE)
             talk.write(b"abc")
@@ -248,7 +340,7 @@ class Once(unittest.TestCase):
             self.assertEqual(talk.end(), (0, b"", b""))
 
     def test_answers_a_piece_before_the_next_one_comes(self):
-        with Talk("echo") as talk:
+        with self.talk("echo") as talk:
             talk.write(post(b"Transfer-Encoding: chunked\r\n", b"1\r\na\r\n"))
             wanted = ECHO_HEAD + b"1\r\na\r\n"
             self.assertEqual(talk.read(len(wanted)), wanted)
@@ -261,12 +353,17 @@ class Once(unittest.TestCase):
             self.assertEqual(talk.end(), (0, b"", b""))
 
     def test_an_answer_comes_before_the_body_that_it_does_not_need(self):
-        with Talk("hello") as talk:
+        with self.talk("hello") as talk:
             talk.write(post(b"Content-Length: 4\r\n", b"ab"))
             self.assertEqual(talk.read(len(HELLO)), HELLO)
             talk.write(b"cd" + GET)
             self.assertEqual(talk.read(len(HELLO)), HELLO)
             self.assertEqual(talk.end(), (0, b"", b""))
+
+
+@asks(ONCE)
+class Streams:
+    """Standard input and standard output that fail."""
 
     def test_a_client_that_reads_no_more_stops_it(self):
         with Talk("hello") as talk:
@@ -297,7 +394,8 @@ class Once(unittest.TestCase):
         self.assertEqual(result, (0, b"", b""))
 
 
-class Usage(unittest.TestCase):
+@asks(ONCE)
+class Usage:
     """Any other words."""
 
     def test_is_said_before_anything_else_is_done(self):
@@ -327,13 +425,8 @@ class Usage(unittest.TestCase):
 
 
 def main():
-    global PROGRAM
-    PROGRAM = os.path.abspath(sys.argv[1])
-    suite = unittest.defaultTestLoader.loadTestsFromModule(sys.modules[__name__])
-    result = unittest.TextTestRunner(stream=sys.stdout, verbosity=2).run(suite)
-    failed = len(result.failures) + len(result.errors)
-    print(f"{max(result.testsRun - failed, 0)} passed, {failed} failed")
-    return 1 if failed or not result.testsRun else 0
+    servers_of.DEMO = os.path.abspath(sys.argv[1])
+    return servers_of.run_tests(__name__)
 
 
 if __name__ == "__main__":

@@ -1,9 +1,9 @@
-"""WebSocket sessions of the built program, over real sockets: by Python's `websockets`, and frame by frame.
+"""WebSocket sessions over real sockets, of each server of tests/servers_of.py: by Python's `websockets`, and frame by frame.
 
-Usage: sessions.py PROGRAM. The last line is 'N passed, M failed', and the status is 0 only with none failed.
-Each connection of a listener on 127.0.0.1 is the standard input and output of a program of its own, `once APP`, so that
-all that the program reads and writes goes over a socket. The client is the one of Debian's package python3-websockets,
-which is installed by apt-get where it is missing; it is a package of Debian's own Python, which then runs this script.
+Usage: sessions.py PROGRAM [TEST..]. The last line is 'N passed, M failed', and the status is 0 only with none failed.
+For `once` each connection of a listener on 127.0.0.1 is the standard input and output of a program of its own, so that all
+that the program reads and writes goes over a socket. The client is the one of Debian's package python3-websockets, which
+is installed by apt-get where it is missing; it is a package of Debian's own Python, which then runs this script.
 Expected bytes are those of RFC 6455, and never what the program wrote before.
 """
 
@@ -16,12 +16,13 @@ import subprocess
 import sys
 import threading
 import time
-import unittest
 from concurrent.futures import ThreadPoolExecutor
 
 import fuzz
+import servers_of
+from servers import free_port
+from servers_of import FOUR, ONCE, ONE, WORKERS, Running, asks
 
-PROGRAM = ""
 PYTHON = "/usr/bin/python3"
 # How long a client waits for bytes, and how long a program may take to end once its connection has.
 SECONDS = 30
@@ -96,14 +97,42 @@ def code_of(back):
     return int.from_bytes(body[:2], "big")
 
 
-def spoken(given, app="wsecho"):
+def frames_of(answer):
+    """The frames of a session's answer."""
+    head, end, text = answer.partition(b"\r\n\r\n")
+    if (head[:13], end) != (b"HTTP/1.1 101 ", b"\r\n\r\n"):
+        raise AssertionError(f"{answer!r} is no session")
+    return fuzz.frames(text)
+
+
+def spoken(given):
     """The frames that answer those of a client which come at once, after the opening handshake, through pipes."""
     words = {"stdout": subprocess.PIPE, "stderr": subprocess.PIPE, "timeout": SECONDS, "check": False}
-    ran = subprocess.run([PROGRAM, "once", app], input=HANDSHAKE + given, **words)
-    head, end, text = ran.stdout.partition(b"\r\n\r\n")
-    if (head[:13], end, ran.returncode, ran.stderr) != (b"HTTP/1.1 101 ", b"\r\n\r\n", 0, b""):
+    ran = subprocess.run([servers_of.DEMO, "once", "wsecho"], input=HANDSHAKE + given, **words)
+    if (ran.returncode, ran.stderr) != (0, b""):
         raise AssertionError(f"{ran!r} is no session")
-    return fuzz.frames(text)
+    return frames_of(ran.stdout)
+
+
+def spoken_to(server, given):
+    """The same by a connection of a server, whose client sends all, ends its side, and reads meanwhile."""
+    with server.connect() as line:
+        sends = threading.Thread(target=send_all, args=(line, HANDSHAKE + given))
+        sends.start()
+        answer = b""
+        while piece := line.recv(1 << 16):
+            answer += piece
+        sends.join()
+    return frames_of(answer)
+
+
+def send_all(line, given):
+    """Sends all, and ends this side. A server that has closed the session takes no more of it."""
+    try:
+        line.sendall(given)
+        line.shutdown(socket.SHUT_WR)
+    except OSError:
+        pass
 
 
 class Served:
@@ -122,7 +151,7 @@ class Served:
             except OSError:
                 return
             how = {"stdin": line, "stdout": line, "stderr": subprocess.PIPE}
-            program = subprocess.Popen([PROGRAM, "once", self.app], **how)
+            program = subprocess.Popen([servers_of.DEMO, "once", self.app], **how)
             # The program has the socket alone, so that the connection ends where it does.
             line.close()
             with self.began:
@@ -217,16 +246,25 @@ class Client:
         self.line.close()
 
 
-class Case(unittest.TestCase):
+class Case:
+    def serves(self, app="wsecho", count=1):
+        """The server that is asked."""
+        return Served(app) if self.server == ONCE else Running(self.server, free_port(), app, count)
+
     def session(self, app="wsecho"):
-        """A listener and an open connection to it, until the test ends."""
-        served = self.enterContext(Served(app))
+        """A server and an open connection to it, until the test ends."""
+        served = self.enterContext(self.serves(app))
         return served, self.enterContext(Client(served))
 
-    def ends_well(self, served):
-        self.assertEqual(served.end(), (0, b""))
+    def ends_well(self, served, report="1 finished"):
+        """Its one connection ends with this report, and the server well."""
+        if self.server == ONCE:
+            self.assertEqual(served.end(), (0, b""))
+        else:
+            self.assertEqual(served.ended(), servers_of.well(report))
 
 
+@asks(ONE, FOUR, WORKERS, ONCE)
 class Handshakes(Case):
     """The opening handshake, byte by byte."""
 
@@ -244,7 +282,7 @@ class Handshakes(Case):
         wanted = HELLO_BACK + answered(CLOSE, struct.pack(">H", 1000))
         places = [0, 1, len(EXAMPLE) - 1, len(EXAMPLE), len(EXAMPLE) + 1, len(EXAMPLE) + 7, len(given) - 1]
         for place in places:
-            with self.subTest(place=place), Served() as served, Client(served) as client:
+            with self.subTest(place=place), self.serves() as served, Client(served) as client:
                 client.write(given[:place])
                 time.sleep(0.05)
                 client.open(given[place:])
@@ -253,7 +291,7 @@ class Handshakes(Case):
 
     def test_is_answered_after_plain_requests(self):
         for apart in (False, True):
-            with self.subTest(apart=apart), Served() as served, Client(served) as client:
+            with self.subTest(apart=apart), self.serves() as served, Client(served) as client:
                 if apart:
                     for _ in range(2):
                         client.write(GET)
@@ -267,7 +305,7 @@ class Handshakes(Case):
                 self.assertEqual(client.read(len(HELLO_BACK)), HELLO_BACK)
                 client.write(frame(CLOSE))
                 self.assertEqual(client.rest(), answered(CLOSE))
-                self.ends_well(served)
+                self.ends_well(served, "3 finished")
 
     def test_is_refused_where_it_is_faulty(self):
         rows = [
@@ -278,7 +316,7 @@ class Handshakes(Case):
             (b"GET /", b"POST /", "400"),
         ]
         for old, new, wanted in rows:
-            with self.subTest(new=new), Served() as served, Client(served) as client:
+            with self.subTest(new=new), self.serves() as served, Client(served) as client:
                 client.write(HANDSHAKE.replace(old, new))
                 status, fields = client.head()
                 self.assertEqual(status.split(" ")[:2], ["HTTP/1.1", wanted])
@@ -287,18 +325,19 @@ class Handshakes(Case):
                     self.assertEqual(fields.get("sec-websocket-version"), "13")
                 client.write(HELLO)
                 self.assertNotIn(HELLO_BACK, client.rest())
-                self.ends_well(served)
+                self.ends_well(served, f"0 refused {wanted}")
 
     def test_is_refused_by_the_other_applications(self):
         # A close in place of an accept is 403 (ASGI WebSocket, "Close").
         for app in ("hello", "echo", "notfound"):
-            with self.subTest(app=app), Served(app) as served, Client(served) as client:
+            with self.subTest(app=app), self.serves(app) as served, Client(served) as client:
                 client.write(HANDSHAKE)
                 self.assertEqual(client.head()[0], "HTTP/1.1 403 Forbidden")
                 client.rest()
                 self.ends_well(served)
 
 
+@asks(ONE, FOUR, WORKERS, ONCE)
 class Frames(Case):
     """Sessions frame by frame."""
 
@@ -348,7 +387,7 @@ class Frames(Case):
         ]
         for number, parts in enumerate(rows):
             opcode = BINARY if number == len(rows) - 1 else TEXT
-            with self.subTest(row=number), Served() as served, Client(served) as client:
+            with self.subTest(row=number), self.serves() as served, Client(served) as client:
                 client.open()
                 for place, part in enumerate(parts):
                     client.write(frame(CONTINUATION if place else opcode, part, final=place == len(parts) - 1))
@@ -385,7 +424,7 @@ class Frames(Case):
         # Section 5.5.1: the endpoint "typically echos the status code it received".
         for code in (1000, 1001, 3000, 4999):
             for reason in (b"", b"r", "\u00e9".encode() + b"n" * 121):
-                with self.subTest(code=code, reason=len(reason)), Served() as served, Client(served) as client:
+                with self.subTest(code=code, reason=len(reason)), self.serves() as served, Client(served) as client:
                     client.open()
                     client.write(frame(CLOSE, struct.pack(">H", code) + reason))
                     back = client.rest()
@@ -398,7 +437,7 @@ class Frames(Case):
 
     def test_nothing_is_answered_after_a_close(self):
         for after in (HELLO, PING_HELLO, frame(CLOSE, struct.pack(">H", 1001)), b"\xff" * 100):
-            with self.subTest(after=after[:2]), Served() as served, Client(served) as client:
+            with self.subTest(after=after[:2]), self.serves() as served, Client(served) as client:
                 client.open()
                 client.write(HELLO + frame(CLOSE, struct.pack(">H", 1000)) + after)
                 self.assertEqual(client.rest(), HELLO_BACK + answered(CLOSE, struct.pack(">H", 1000)))
@@ -470,17 +509,33 @@ def coded(frames):
     return [(opcode, int.from_bytes(body[:2], "big") if opcode == CLOSE else body) for opcode, body in frames]
 
 
-class Edges(unittest.TestCase):
-    """What comes at once, through pipes: a program for each row, as many side by side as there are processors."""
+@asks(ONE, FOUR, WORKERS, ONCE)
+class Edges(Case):
+    """What comes at once: a connection for each row, and for `once` a program, as many side by side as there are processors."""
 
-    def each(self, rows, found):
+    def each(self, rows, given):
+        """The rows, each with the frames that answer what is given for it."""
         with ThreadPoolExecutor(len(os.sched_getaffinity(0))) as pool:
-            return list(zip(rows, pool.map(found, rows)))
+            if self.server == ONCE:
+                return list(zip(rows, pool.map(lambda row: spoken(given(row)), rows)))
+            found = []
+            # A server of workers ends after at most so many connections.
+            for at in range(0, len(rows), 1_000):
+                some = rows[at : at + 1_000]
+                with self.serves(count=len(some)) as server:
+                    found += zip(some, pool.map(lambda row, server=server: spoken_to(server, given(row)), some))
+                    ended = server.ended()
+                    self.assertEqual((len(ended.reports), ended.others, ended.status), (len(some), [], 0))
+            return found
+
+    def spoken(self, given):
+        return self.each([given], lambda row: row)[0][1]
 
     def test_a_close_is_answered_by_its_code_or_as_a_fault(self):
         codes = [*range(5001), 65_535]
         wrong = []
-        for code, back in self.each(codes, lambda code: coded(spoken(frame(CLOSE, struct.pack(">H", code) + b"r")))):
+        for code, frames in self.each(codes, lambda code: frame(CLOSE, struct.pack(">H", code) + b"r")):
+            back = coded(frames)
             wanted = [code] if code in LAWFUL else [code, PROTOCOL_ERROR] if code in LATER else [PROTOCOL_ERROR]
             wrong += [] if len(back) == 1 and back[0][0] == CLOSE and back[0][1] in wanted else [(code, back)]
         self.assertEqual(wrong, [])
@@ -489,25 +544,28 @@ class Edges(unittest.TestCase):
         rows = [(text, cut) for text in bent_texts() for cut in range(len(text) + 1)]
         end = frame(CLOSE, struct.pack(">H", 1000))
 
-        def found(row):
+        def given(row):
             text, cut = row
-            return coded(spoken(frame(TEXT, text[:cut], final=False) + frame(CONTINUATION, text[cut:]) + end))
+            return frame(TEXT, text[:cut], final=False) + frame(CONTINUATION, text[cut:]) + end
 
-        self.assertEqual([(row, back) for row, back in self.each(rows, found) if back != due(row[0])], [])
+        self.assertEqual([(row, back) for row, back in self.each(rows, given) if coded(back) != due(row[0])], [])
 
     def test_a_text_with_a_ping_inside_is_judged_alike(self):
         end = frame(CLOSE, struct.pack(">H", 1000))
-        for text in TEXTS:
-            for cut in range(len(text) + 1):
-                given = frame(TEXT, text[:cut], final=False) + PING_HELLO + frame(CONTINUATION, text[cut:]) + end
-                back = coded(spoken(given))
-                # A text that is faulty before the ping may end the session before it (section 8.1).
-                self.assertIn([it for it in back if it != (PONG, b"Hello")], [due(text)], (text, cut))
+        rows = [(text, cut) for text in TEXTS for cut in range(len(text) + 1)]
+
+        def given(row):
+            text, cut = row
+            return frame(TEXT, text[:cut], final=False) + PING_HELLO + frame(CONTINUATION, text[cut:]) + end
+
+        # A text that is faulty before the ping may end the session before it (section 8.1).
+        found = [(row, [it for it in coded(back) if it != (PONG, b"Hello")]) for row, back in self.each(rows, given)]
+        self.assertEqual([(row, back) for row, back in found if back != due(row[0])], [])
 
     def test_ten_thousand_pings_are_answered_in_order(self):
         payloads = [number.to_bytes(4, "big") for number in range(10_000)]
         given = b"".join(frame(PING, it) for it in payloads)
-        back = spoken(given + frame(CLOSE, struct.pack(">H", 1000)))
+        back = self.spoken(given + frame(CLOSE, struct.pack(">H", 1000)))
         self.assertEqual(coded(back[-1:]), [(CLOSE, 1000)])
         # A pong may answer several pings, with the payload of the last (section 5.5.3).
         pongs = [int.from_bytes(body, "big") for opcode, body in back[:-1] if opcode == PONG]
@@ -517,32 +575,36 @@ class Edges(unittest.TestCase):
     def test_ten_thousand_fragments_are_one_message(self):
         for between in (b"", frame(PONG, b"x")):
             parts = [frame(TEXT if at == 0 else CONTINUATION, b"%04d" % at, final=at == 9_999) + between for at in range(10_000)]
-            back = spoken(b"".join(parts) + frame(CLOSE, struct.pack(">H", 1000)))
+            back = self.spoken(b"".join(parts) + frame(CLOSE, struct.pack(">H", 1000)))
             self.assertEqual(coded(back), [(TEXT, b"".join(b"%04d" % at for at in range(10_000))), (CLOSE, 1000)])
 
     def test_a_mask_is_taken_off_byte_by_byte(self):
         # Any key is lawful (section 5.3).
-        for key in (bytes(4), b"\xff" * 4, b"\0\xff\0\xff", b"\x80\0\0\x01", MASK):
-            for size in (0, 1, 2, 3, 4, 5, 125, 126, 70_001):
-                payload = pattern(size)
-                given = b"\x82" + length_of(size, 0x80) + key + masked(payload, key)
-                back = spoken(given + frame(CLOSE, struct.pack(">H", 1000)))
-                self.assertEqual(coded(back), [(BINARY, payload), (CLOSE, 1000)], (key, size))
+        keys = (bytes(4), b"\xff" * 4, b"\0\xff\0\xff", b"\x80\0\0\x01", MASK)
+        rows = [(key, size) for key in keys for size in (0, 1, 2, 3, 4, 5, 125, 126, 70_001)]
+
+        def given(row):
+            key, size = row
+            return b"\x82" + length_of(size, 0x80) + key + masked(pattern(size), key) + frame(CLOSE, struct.pack(">H", 1000))
+
+        for (key, size), back in self.each(rows, given):
+            self.assertEqual(coded(back), [(BINARY, pattern(size)), (CLOSE, 1000)], (key, size))
 
 
+@asks(ONE, FOUR, WORKERS, ONCE)
 class Faults(Case):
     """Sessions that a client ends, in a way that the standard forbids or by leaving."""
 
     def test_a_faulty_frame_ends_the_session(self):
         for why, given, code in FAULTS:
-            with self.subTest(why=why), Served() as served, Client(served) as client:
+            with self.subTest(why=why), self.serves() as served, Client(served) as client:
                 client.open()
                 client.write(HELLO)
                 self.assertEqual(client.read(len(HELLO_BACK)), HELLO_BACK)
                 client.write(given)
                 # The client leaves its side open, and the connection ends all the same.
                 self.assertEqual(code_of(client.rest()), code)
-                self.ends_well(served)
+                self.ends_well(served, "1 input-broke")
 
     def test_what_comes_before_a_faulty_frame_is_answered(self):
         served, client = self.session()
@@ -551,7 +613,7 @@ class Faults(Case):
         back = client.rest()
         self.assertEqual(back[: 2 * len(HELLO_BACK)], 2 * HELLO_BACK)
         self.assertEqual(code_of(back[2 * len(HELLO_BACK) :]), PROTOCOL_ERROR)
-        self.ends_well(served)
+        self.ends_well(served, "1 input-broke")
 
     def test_a_client_that_leaves_ends_the_program(self):
         rows = [
@@ -563,13 +625,13 @@ class Faults(Case):
         ]
         for why, given in rows:
             for leave in (lambda it: it.line.close(), Client.close_with_a_reset):
-                with self.subTest(why=why), Served() as served, Client(served) as client:
+                with self.subTest(why=why), self.serves() as served, Client(served) as client:
                     client.open()
                     client.write(given)
                     if given:
                         self.assertEqual(client.read(len(HELLO_BACK)), HELLO_BACK)
                     leave(client)
-                    self.ends_well(served)
+                    self.ends_well(served, "1 input-broke")
 
     def test_a_client_that_only_stops_sending_gets_its_answers(self):
         served, client = self.session()
@@ -580,6 +642,7 @@ class Faults(Case):
         self.ends_well(served)
 
 
+@asks(ONE, FOUR, WORKERS, ONCE)
 class Messages(Case):
     """Sessions of Python's `websockets`, with all that it offers by itself."""
 
@@ -594,7 +657,7 @@ class Messages(Case):
                 await talk(session)
             return session.close_code, session.close_reason
 
-        with Served() as served:
+        with self.serves() as served:
             ended = asyncio.run(asyncio.wait_for(run(served.port), 4 * SECONDS))
             self.ends_well(served)
         return ended
@@ -684,8 +747,11 @@ class Messages(Case):
         async def all_of(port):
             await asyncio.gather(*(one(port, number) for number in range(8)))
 
-        with Served() as served:
+        with self.serves(count=8) as served:
             asyncio.run(asyncio.wait_for(all_of(served.port), 4 * SECONDS))
+            if self.server != ONCE:
+                self.assertEqual(served.ended(), servers_of.well(*["1 finished"] * 8))
+                return
             # A session can be over before the thread that accepts has said that its program began.
             with served.began:
                 served.began.wait_for(lambda: len(served.programs) == 8, timeout=SECONDS)
@@ -715,14 +781,9 @@ def go_to_the_client():
 
 
 def main():
-    global PROGRAM
     go_to_the_client()
-    PROGRAM = os.path.abspath(sys.argv[1])
-    suite = unittest.defaultTestLoader.loadTestsFromModule(sys.modules[__name__])
-    result = unittest.TextTestRunner(stream=sys.stdout, verbosity=2).run(suite)
-    failed = len(result.failures) + len(result.errors)
-    print(f"{max(result.testsRun - failed, 0)} passed, {failed} failed")
-    return 1 if failed or not result.testsRun else 0
+    servers_of.DEMO = os.path.abspath(sys.argv[1])
+    return servers_of.run_tests(__name__)
 
 
 if __name__ == "__main__":

@@ -1,11 +1,21 @@
 //! An application that ends the server that serves it.
-use nomtsage::{AppFault, Application, Chars, Headers, Kind, Octets, Outgoing, Says, Scope, Stop};
+use nomtsage::{
+    AppFault, Application, Both, Chars, Headers, Kind, Octets, Outgoing, Says, Scope, Stop, WsEcho,
+};
 use std::alloc::Global;
 
 /// Responds to each request with its path. A request of `/end` stops the server.
 #[derive(Clone, Copy)]
 pub struct Ends<'a> {
     pub stop: &'a Stop,
+}
+
+/// The application that pulls this stop, whose sessions send each message back.
+pub fn ends(stop: &Stop) -> Both<Ends<'_>, WsEcho> {
+    Both {
+        http: Ends { stop },
+        ws: WsEcho,
+    }
 }
 
 impl<'a> Application for Ends<'a> {

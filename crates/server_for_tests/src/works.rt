@@ -16,6 +16,11 @@ pub struct Works<R> {
     pub waits: bool,
 }
 
+/// The application that works, or waits.
+pub fn works<R: Copy>(rt: &R, waits: bool) -> Works<R> {
+    Works { rt: *rt, waits }
+}
+
 /// Says the head, the first line and the last one.
 #[derive(Drop)]
 pub struct Working<R> {

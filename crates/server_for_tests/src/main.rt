@@ -1,0 +1,34 @@
+//! A server for tests: `server_for_tests PORT|ADDRESS COUNT APP [SETTING..]`.
+#![tactic(auto)]
+
+mod ends;
+mod handles;
+mod mounted;
+mod mute;
+mod one_thread;
+mod routed;
+mod several_threads;
+mod silent;
+mod tries;
+mod words;
+mod workers;
+mod works;
+
+use one_thread::in_one_thread;
+use several_threads::in_threads;
+use std::io;
+use std::process::ExitCode;
+use words::{Place, usage, words_of};
+use workers::{by_workers, in_workers};
+
+fn main(rt: HostRuntime) -> ExitCode {
+    let Some(words) = words_of(&rt) else {
+        return usage(&mut io::writer(&rt));
+    };
+    match words.settings.place {
+        Place::OneThread => in_one_thread(&rt, &words),
+        Place::Threads(count) => in_threads(&rt, &words, count),
+        Place::Blocking(count) => by_workers(&rt, &words, count),
+        Place::InWorker(count) => in_workers(&rt, &words, count),
+    }
+}

@@ -1,0 +1,80 @@
+//! The applications, served in the thread that calls.
+use crate::ends::ends;
+use crate::handles::Handles;
+use crate::mounted::{limits_of, mounts};
+use crate::mute::Mute;
+use crate::routed::{rooms, routes};
+use crate::silent::Silent;
+use crate::tries::{Kind, tries};
+use crate::words::{App, Words};
+use crate::works::works;
+use log::Log;
+use nomtsage::{
+    Echo, Handled, Hello, Host, InSeats, Life, LogLines, NotFound, Quiet, Server, Stop, WsEcho,
+};
+use std::net::Net;
+use std::process::ExitCode;
+use std::time::Clock;
+
+/// Serves the application in the thread that calls.
+pub fn in_one_thread<H: Net + Clock + Log + Host + Drop>(rt: &H, words: &Words) -> ExitCode {
+    let stop = Stop::new();
+    let server = Server::at(words.address)
+        .connections(words.count)
+        .limits(limits_of(&words.settings))
+        .in_seats(words.settings.slots);
+    match words.app {
+        App::Quiet => server.serve(rt, &Hello),
+        App::Ends => server.stop(&stop).log_connections(rt).serve(rt, &ends(&stop)),
+        app => library(rt, server.log_connections(rt), app),
+    }
+}
+
+/// The same of those of the library.
+fn library<H: Net + Clock + Log + Host + Drop>(
+    rt: &H,
+    server: Server<'_, Quiet, LogLines<'_, H>, InSeats>,
+    app: App,
+) -> ExitCode {
+    match app {
+        App::Echo => server.serve(rt, &Echo),
+        App::WsEcho => server.serve(rt, &WsEcho),
+        App::NotFound => server.serve(rt, &NotFound),
+        App::Life => server.serve(rt, &Life::Works),
+        App::NoStart => server.serve(rt, &Life::NoStart),
+        App::NoStop => server.serve(rt, &Life::NoStop),
+        App::Mounts => match mounts(rt.alloc()) {
+            Ok(app) => server.serve(rt, &app),
+            Err(_) => ExitCode::from(5),
+        },
+        App::Handles => server.serve(rt, &Handled::new(Handles)),
+        App::Routes => match routes(rt.alloc()) {
+            Ok(app) => server.serve(rt, &app),
+            Err(_) => ExitCode::from(5),
+        },
+        App::Rooms => match rooms(rt.alloc()) {
+            Ok(app) => server.serve(rt, &app),
+            Err(_) => ExitCode::from(5),
+        },
+        app => own(rt, server, app),
+    }
+}
+
+/// The same of those that are tasks of this program's own, and of the greeting.
+fn own<H: Net + Clock + Log + Host + Drop>(
+    rt: &H,
+    server: Server<'_, Quiet, LogLines<'_, H>, InSeats>,
+    app: App,
+) -> ExitCode {
+    match app {
+        App::SilentStart => server.serve(rt, &Silent::Start),
+        App::SilentStop => server.serve(rt, &Silent::Stop),
+        App::Mute => server.serve(rt, &Mute),
+        App::Cuts => server.serve(rt, &tries(rt, Kind::Cuts)),
+        App::Flood => server.serve(rt, &tries(rt, Kind::Flood)),
+        App::Slow => server.serve(rt, &tries(rt, Kind::Slow)),
+        App::Works => server.serve(rt, &works(rt, false)),
+        App::Waits => server.serve(rt, &works(rt, true)),
+        _ => server.serve(rt, &Hello),
+    }
+}
