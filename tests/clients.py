@@ -71,7 +71,7 @@ class Held(Case):
         with self.serves(app, 4, *settings) as server:
             self.is_served(server)
             server.told(1)
-            before = server.descriptors(), server.memory()
+            before = server.rests(), server.memory()
             line = server.connect(4_096)
             line.sendall(begins)
             flood = Flood(line, text)
@@ -79,7 +79,7 @@ class Held(Case):
             self.is_served(server)
             flood.end()
             server.told(3)
-            after = server.descriptors(), server.memory()
+            after = server.rests(before[0]), server.memory()
             self.assertEqual(after[0], before[0])
             self.assertLess(after[1], before[1] + 8 * GROWTH)
             self.is_served(server)
@@ -122,9 +122,8 @@ def send_on(line, text):
         line.sendall(text)
 
 
-@asks(ONE, FOUR, WORKERS)
-class Refused(Case):
-    """Clients that send what is refused, and more."""
+class TooMuch(Case):
+    """Clients that send more of a body than is taken."""
 
     def refused(self, asked):
         """Sees that five clients that send too much are told so, and that all are told of."""
@@ -133,6 +132,11 @@ class Refused(Case):
                 self.assertEqual(asked(server), 413)
             self.assertEqual(server.ended(), well(*["0 refused 413"] * 5))
 
+
+@asks(WORKERS)
+class AtOnce(TooMuch):
+    """A body that is sent at once."""
+
     def test_a_body_that_is_sent_at_once_is_refused(self):
         def asked(server):
             client = http.client.HTTPConnection("127.0.0.1", server.port, timeout=SECONDS)
@@ -140,6 +144,11 @@ class Refused(Case):
             return client.getresponse().status
 
         self.refused(asked)
+
+
+@asks(ONE, FOUR, WORKERS)
+class Refused(TooMuch):
+    """Clients that send what is refused, and more."""
 
     def test_a_body_that_is_sent_in_pieces_is_refused(self):
         def pieces():
@@ -213,7 +222,7 @@ class Gone(Case):
             with self.serves(app, len(rows) + 2) as server:
                 self.is_served(server)
                 server.told(1)
-                before = server.descriptors()
+                before = server.rests()
                 for number, row in enumerate(rows, 2):
                     with self.subTest(row=row):
                         line = server.connect()
@@ -225,7 +234,7 @@ class Gone(Case):
                         go(line)
                         told = server.told(number)[-1]
                         self.assertRegex(f"{told.requests} {told.how}", f"^{report_of(row)}$")
-                self.assertEqual(server.descriptors(), before)
+                self.assertEqual(server.rests(before), before)
                 self.is_served(server)
                 ended = server.ended()
                 self.assertEqual((ended.others, ended.status), ([], 0))
@@ -246,7 +255,7 @@ class Gone(Case):
         with self.serves("echo", 12) as server:
             self.is_served(server, LITTLE)
             server.told(1)
-            before = server.descriptors(), server.memory()
+            before = server.rests(), server.memory()
             for number in range(2, 12):
                 line = server.connect(4_096)
                 sends = threading.Thread(target=send_on, args=(line, (post(MEBIBYTE) + bytes(MEBIBYTE)) * 8))
@@ -256,7 +265,7 @@ class Gone(Case):
                 sends.join()
                 resets(line)
                 self.assertRegex(server.told(number)[-1].how, "^(write-failed \\d+|input-broke|finished)$")
-            after = server.descriptors(), server.memory()
+            after = server.rests(before[0]), server.memory()
             self.assertEqual(after[0], before[0])
             self.assertLess(after[1], before[1] + 8 * GROWTH)
             self.is_served(server, LITTLE)

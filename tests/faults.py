@@ -2,7 +2,7 @@
 """What may happen to the built program as a server: calls of the system that fail, clients that take nothing, and signals.
 
 Usage: faults.py PROGRAM [TEST..], or faults.py --edits [NAME..]. The last line is 'N passed, M failed', and the status is 0
-only with none failed. The program of `crates/nomtsage_example` is tried too.
+only with none failed. The program of `crates/server_for_tests` is tried too.
 Calls fail by a library that is preloaded (tests/fail_once.c), which gcc builds here, and descriptors are taken away by a
 limit of the system. What accept(2) says of its errors is the source of the first table. The clients are sockets of this
 script and Python's `http.client`. Each server is started by its test, and has ended at its end.
@@ -29,6 +29,7 @@ import unittest
 from concurrent.futures import ThreadPoolExecutor
 
 import servers
+from library import Own
 from many import MOST, greeted
 from servers import GET, GREETING, HANDSHAKE, SECONDS, Server, free_port, listens, read_all, wait_for
 
@@ -162,11 +163,11 @@ class Faults(unittest.TestCase):
 
 
 class Library(unittest.TestCase):
-    """What a program over `nomtsage` says, and how it ends, where calls of the system fail: that of `crates/nomtsage_example`."""
+    """What a program over `nomtsage` says, and how it ends, where calls of the system fail: that of `crates/server_for_tests`."""
 
-    def ends(self, said, call, error, app="hello", **how):
+    def ends(self, said, call, error, app="hello blocking=2", **how):
         """Asserts that it ends by itself with this line, after the one that says where it listens if it could, and the status 5."""
-        with servers.Own(app, env={**os.environ, **failing(call, error, **how)}) as own:
+        with Own(app, env={**os.environ, **failing(call, error, **how)}) as own:
             lines, status = own.ended()
             self.assertEqual((lines[call != "socket" :], status), ([said], 5))
 
@@ -179,7 +180,7 @@ class Library(unittest.TestCase):
 
     def test_a_thread_that_is_refused_ends_the_server(self):
         # A thread for the tasks of each of its two workers, and then one for each worker.
-        for app in ("hello", "nostop"):
+        for app in ("hello blocking=2", "nostop blocking=2"):
             for after in range(4):
                 with self.subTest(app=app, after=after):
                     self.ends("no thread for a worker", "pthread_create", errno.EAGAIN, app, after=after)
@@ -189,7 +190,7 @@ class Library(unittest.TestCase):
         for workers in (2, 4, 8):
             for after in range(workers - 1):
                 with self.subTest(workers=workers, after=after):
-                    with servers.Own("tables", workers=workers, env={**os.environ, **failing("pthread_create", errno.EAGAIN, after=after)}) as own:
+                    with Own(f"hello threads={workers}", env={**os.environ, **failing("pthread_create", errno.EAGAIN, after=after)}) as own:
                         lines, status = own.ended()
                         self.assertEqual((lines[1:], status), (["no thread for a worker"], 5))
 
@@ -202,7 +203,7 @@ class Library(unittest.TestCase):
 
     def test_a_connection_that_is_lost_is_passed_over(self):
         for name in ("ECONNABORTED", "EMFILE"):
-            with self.subTest(error=name), servers.Own("hello", env={**os.environ, **failing("accept", getattr(errno, name), times=10)}) as own:
+            with self.subTest(error=name), Own("hello blocking=2", env={**os.environ, **failing("accept", getattr(errno, name), times=10)}) as own:
                 with socket.create_connection(("127.0.0.1", own.port()), timeout=SECONDS) as line:
                     line.sendall(b"GET / HTTP/1.0\r\n\r\n")
                     self.assertTrue(read_all(line).endswith(b"hello\n"))

@@ -20,7 +20,6 @@ import record
 
 TOP = os.path.dirname(os.path.dirname(os.path.realpath(__file__)))
 PROGRAM = "crates/asgi_demo/out/asgi_demo"
-KEYS = "crates/asgi_keys/out/asgi_keys"
 CI = ["rt", "ci"]
 # What `rt ci` says of a crate that is proved, by itself or by what an earlier run on this machine proved of the same files.
 PROVED = r"rt: (\w+)(?: proved| is kept: an earlier run on this machine proved the same .*)"
@@ -42,14 +41,9 @@ PARTS = [
     ("edits that can be applied", ["python3", "tests/must_fail.py", "--read"]),
     ("rt ci", CI),
     ("runs with an allocation refused", ["python3", "tests/memory.py"]),
-    ("tests from outside", ["python3", "tests/program.py", PROGRAM]),
-    ("tests from outside", ["python3", "tests/sessions.py", PROGRAM]),
-    ("tests from outside", ["python3", "tests/servers.py", PROGRAM]),
-    ("tests from outside", ["python3", "tests/examples.py"]),
-    ("tests from outside", ["python3", "tests/faults.py", PROGRAM]),
-    ("tests from outside", ["python3", "tests/many.py", PROGRAM]),
-    ("tests from outside", ["python3", "tests/seats.py"]),
-    ("tests from outside", ["python3", "tests/keys.py", KEYS]),
+    ("runs with an allocation refused", ["python3", "tests/memory_served.py"]),
+    ("tests that name their servers", ["python3", "tests/servers_of.py", "--table"]),
+    ("tests from outside", ["python3", "tests/outside.py"]),
     ("counts of instructions", ["python3", "tests/instructions.py", PROGRAM]),
     ("self-tests of the gate's scripts", ["python3", "tests/fuzz.py", "--self-test", PROGRAM]),
     ("inputs of a fuzzer", ["python3", "tests/fuzz.py", "--seconds", "60", PROGRAM]),

@@ -7,7 +7,7 @@ object as it was, so that the test passes all the same. Then it runs the program
 gives its whole answer, or says that it lacks memory after a beginning of it, and never anything else. Then it runs the
 program as a server of two clients so, by one worker and by two: each client gets its answer, a beginning of it, the
 response to a fault of the application, or a closed connection, and has its report if any byte of it was answered. Last it
-runs the program of crates/nomtsage_example so, from its start to its stop. No number of allocations is written down: one is
+runs the program of crates/server_for_tests so, from its start to its stop. No number of allocations is written down: one is
 through once a run had nothing left to refuse. What came of the runs of the programs is told for each row, with how often.
 The last line is 'N passed, M failed', where a run with one allocation refused is one.
 """
@@ -29,7 +29,7 @@ import servers
 HERE = os.path.dirname(os.path.realpath(__file__))
 CRATES = f"{os.path.dirname(HERE)}/crates"
 PROGRAM = f"{CRATES}/asgi_demo/out/asgi_demo"
-OWN = f"{CRATES}/nomtsage_example/out/nomtsage_example"
+OWN = f"{CRATES}/server_for_tests/out/server_for_tests"
 # A run makes far fewer; one that makes more has lost its way.
 MOST = 5_000
 SECONDS = 60
@@ -253,8 +253,8 @@ def judge_served(whole):
 
 
 # The words of a server that serves no connection, and the texts of the log that say what it lacks: memory, or what needs it.
-OWN_RUNS = [["127.0.0.1:0", "0", "2", app] for app in ("hello", "ends", "seats", "tables")]
-OWN_USAGE = b"usage: nomtsage_example ADDRESS COUNT WORKERS APP\n"
+OWN_RUNS = [["127.0.0.1:0", "0", *words] for words in (["hello", "blocking=2"], ["ends", "blocking=2"], ["hello"], ["hello", "threads=2"])]
+OWN_USAGE = b"usage: server_for_tests PORT|ADDRESS COUNT APP [threads=N|blocking=N|inworker=N|slots=N|body=N|idle=N]..\n"
 LISTENS = rb"\[INFO  \S+\] listening on http://127\.0\.0\.1:\d+\n"
 OWN_LACKS = rb"\[ERROR \S+\] (out of memory|no thread for a worker|cannot listen on 127\.0\.0\.1:0: the system refused it: [^\n]*)\n"
 
@@ -310,7 +310,7 @@ def main(words):
             asked.append((f"asgi_demo serve PORT 2 {' '.join(given)}", once, judge_served(whole)))
         for given in [] if words else OWN_RUNS:
             once = lambda number, given=given: refusing.run([OWN, *given], number)
-            asked.append((f"nomtsage_example {' '.join(given)}", once, judge_own))
+            asked.append((f"server_for_tests {' '.join(given)}", once, judge_own))
         done = [*pool.map(lambda it: refusing.sweep(*it), asked)]
     passed, failed = sum(it[0] for it in done), [text for it in done for text in it[1]]
     print(*[f"FAILED: {it}" for it in failed], sep="\n")

@@ -167,6 +167,17 @@ class Running:
     def descriptors(self):
         return len(os.listdir(f"/proc/{self.ran.pid}/fd"))
 
+    def rests(self, own=None):
+        """Waits until its descriptors are so many again, or stay as many as they are, for connections that are told of are still closed. Returns the number."""
+        found, since, until = -1, 0, time.monotonic() + SECONDS / 4
+        while time.monotonic() < until:
+            now = self.descriptors()
+            found, since = now, since + 1 if now == found else 0
+            if now == own or own is None and since == 10:
+                break
+            time.sleep(0.01)
+        return found
+
     def memory(self):
         """Its memory in kilobytes."""
         with open(f"/proc/{self.ran.pid}/status", encoding="ascii") as it:

@@ -1,7 +1,5 @@
 //! An application that says nothing.
-use nomtsage::{
-    AppEnd, AppFault, AppTask, Application, Context, Incoming, Poll, Scope,
-};
+use nomtsage::{AppEnd, AppFault, AppTask, Application, Context, Incoming, Poll, Scope};
 use std::alloc::Global;
 
 /// Hears each request and each session to its end, and answers none.

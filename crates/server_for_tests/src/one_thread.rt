@@ -25,7 +25,10 @@ pub fn in_one_thread<H: Net + Clock + Log + Host + Drop>(rt: &H, words: &Words) 
         .in_seats(words.settings.slots);
     match words.app {
         App::Quiet => server.serve(rt, &Hello),
-        App::Ends => server.stop(&stop).log_connections(rt).serve(rt, &ends(&stop)),
+        App::Ends => server
+            .stop(&stop)
+            .log_connections(rt)
+            .serve(rt, &ends(&stop)),
         app => library(rt, server.log_connections(rt), app),
     }
 }

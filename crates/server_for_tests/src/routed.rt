@@ -1,7 +1,7 @@
 //! Two endpoints under routes, and a room under a pattern.
 use nomtsage::{
-    Answer, AppFault, Chain, Chars, Empty, Endpoint, Hosted, Hushed, NoRooms, Opened, Payload, Reply,
-    Request, Room, RoomChain, Rooms, RouteError, Routes, Shared, Talk, WsScope, param_of,
+    Answer, AppFault, Chain, Chars, Empty, Endpoint, Hosted, Hushed, NoRooms, Opened, Payload,
+    Reply, Request, Room, RoomChain, Rooms, RouteError, Routes, Shared, Talk, WsScope, param_of,
 };
 use std::alloc::Global;
 

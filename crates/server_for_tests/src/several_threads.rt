@@ -10,14 +10,19 @@ use crate::words::{App, Words};
 use crate::works::works;
 use log::Log;
 use nomtsage::{
-    Echo, Handled, Hello, Host, InTables, Life, LogLines, NotFound, OwnThread, Quiet, Server, Stop, WsEcho,
+    Echo, Handled, Hello, Host, InTables, Life, LogLines, NotFound, OwnThread, Quiet, Server, Stop,
+    WsEcho,
 };
 use std::net::Net;
 use std::process::ExitCode;
 use std::time::Clock;
 
 /// Serves the application in several threads.
-pub fn in_threads<H: Net + Clock + Log + Host + Sync + Drop>(rt: &H, words: &Words, count: u64) -> ExitCode {
+pub fn in_threads<H: Net + Clock + Log + Host + Sync + Drop>(
+    rt: &H,
+    words: &Words,
+    count: u64,
+) -> ExitCode {
     let stop = Stop::new();
     let server = Server::at(words.address)
         .connections(words.count)
@@ -26,7 +31,10 @@ pub fn in_threads<H: Net + Clock + Log + Host + Sync + Drop>(rt: &H, words: &Wor
         .threads(count);
     match words.app {
         App::Quiet => server.serve(rt, &Hello),
-        App::Ends => server.stop(&stop).log_connections(rt).serve(rt, &ends(&stop)),
+        App::Ends => server
+            .stop(&stop)
+            .log_connections(rt)
+            .serve(rt, &ends(&stop)),
         app => library(rt, server.log_connections(rt), app),
     }
 }

@@ -6,7 +6,8 @@ use std::process::ExitCode;
 use std::rt::Env;
 
 /// The usage text.
-const USAGE: &str = "usage: server_for_tests PORT|ADDRESS COUNT APP [threads=N|blocking=N|inworker=N|slots=N|body=N|idle=N]..";
+const USAGE: &str =
+    "usage: server_for_tests PORT|ADDRESS COUNT APP [threads=N|blocking=N|inworker=N|slots=N|body=N|idle=N]..";
 
 /// The application that is to be served.
 #[derive(Clone, Copy, Debug, PartialEq, Eq)]

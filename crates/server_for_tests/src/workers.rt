@@ -16,11 +16,7 @@ use std::time::Clock;
 pub fn by_workers<
     S: OpenStream + Read + Write + Drop + Send,
     H: Net<Stream = S> + Clock + Log + Host + Sync + Send + Drop + 'static,
->(
-    rt: &H,
-    words: &Words,
-    count: u64,
-) -> ExitCode
+>(rt: &H, words: &Words, count: u64) -> ExitCode
 where
     H::Listener: Send,
 {
@@ -32,7 +28,10 @@ where
         .workers(count);
     match words.app {
         App::Quiet => server.serve(rt, &Hello),
-        App::Ends => server.stop(&stop).log_connections(rt).serve(rt, &ends(&stop)),
+        App::Ends => server
+            .stop(&stop)
+            .log_connections(rt)
+            .serve(rt, &ends(&stop)),
         app => logged(rt, server.log_connections(rt), app),
     }
 }
@@ -41,11 +40,7 @@ where
 fn logged<
     S: OpenStream + Read + Write + Drop + Send,
     H: Net<Stream = S> + Clock + Log + Host + Sync + Send + Drop + 'static,
->(
-    rt: &H,
-    server: Server<'_, Quiet, LogLines<'_, H>, InThread>,
-    app: App,
-) -> ExitCode
+>(rt: &H, server: Server<'_, Quiet, LogLines<'_, H>, InThread>, app: App) -> ExitCode
 where
     H::Listener: Send,
 {
@@ -64,11 +59,7 @@ where
 pub fn in_workers<
     S: OpenStream + Read + Write + Drop + Send,
     H: Net<Stream = S> + Clock + Log + Host + Sync + Drop,
->(
-    rt: &H,
-    words: &Words,
-    count: u64,
-) -> ExitCode
+>(rt: &H, words: &Words, count: u64) -> ExitCode
 where
     H::Listener: Send,
 {
