@@ -106,11 +106,17 @@ def judge(row):
     _, _, whole, report, _ = row
 
     def judged(refused, status, lines, clients):
-        told = {it.port: f"{it.requests} {it.how}" for it in map(report_of, lines) if it}
+        reports = [it for it in map(report_of, lines) if it]
+        told = {it.port: f"{it.requests} {it.how}" for it in reports}
+        # A line has no client where memory for its address was refused.
+        unnamed = sum(not it.host for it in reports)
         others = [it for it in lines if not report_of(it) and not LISTENS.fullmatch(it)]
         wrong = [it.answer[-200:] for it in clients if not is_part(it.answer, whole)]
-        wrong += [told.get(it.port) for it in clients if it.answer == whole and told.get(it.port) != report]
+        wrong += [told.get(it.port) for it in clients if it.answer == whole and told.get(it.port, report if unnamed else None) != report]
         lacks = LACKS.fullmatch(others[0]) if len(others) == 1 else None
+        # It lacks memory for its words, or for the application that it is to serve.
+        if refused and status in (2, 5) and not lines:
+            return f"status {status}", None
         if wrong or (status, others) != (0, []) and not (refused and status == 5 and lacks):
             return "", f"status {status}, lines {lines}, wrong {wrong}, answers {[it.answer[-200:] for it in clients]}"
         if not refused and [it for it in clients if not it.goes and it.answer != whole]:

@@ -47,7 +47,7 @@ FAILED = {
 FAILED[FOUR] = FAILED[ONE]
 # Tests that are not for a server that their class asks: the script, the test, the server, and why it can't hold.
 IN_ORDER = "a connection is told of as it ends, under the number of its end"
-IN_THREAD = "its application has a thread of its own: a close that comes right behind a message may be answered before that"
+IN_THREAD = "its application has a thread of its own: a ping or a close that comes right behind a message may be answered before that"
 NOT_FOR = {
     **{
         ("sessions", test, WORKERS): IN_THREAD
@@ -59,6 +59,7 @@ NOT_FOR = {
             "test_a_text_is_judged_alike_wherever_it_is_cut",
             "test_a_text_with_a_ping_inside_is_judged_alike",
             "test_a_mask_is_taken_off_byte_by_byte",
+            "test_a_client_that_only_stops_sending_gets_its_answers",
         )
     },
     ("calls", "test_a_socket_that_accepts_nothing_ends_the_server", WORKERS): "its accept has begun before it fails: tests/faults.py has it fail from the start",
