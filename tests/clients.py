@@ -317,6 +317,71 @@ class Told(Case):
                 asked(app, given, wanted)
 
 
+@asks(ONE, FOUR)
+class Waiting(Case):
+    """Exchanges that wait, and what is held as a server ends."""
+
+    def test_what_an_application_says_while_nothing_comes_is_sent_at_once(self):
+        # A line each 100 milliseconds; a tick is a second.
+        with self.serves("slow", 2) as server:
+            for _ in range(2):
+                with server.connect() as line:
+                    line.sendall(CLOSES)
+                    text, times = b"", []
+                    while piece := line.recv(1 << 16):
+                        text += piece
+                        times += [time.monotonic()] * (text.count(b"line\n") - len(times))
+                self.assertEqual(len(times), 10)
+                self.assertLess(times[-1] - times[0], 1.6)
+                self.assertGreater(times[-1] - times[0], 0.6)
+                self.assertLess(max(after - before for before, after in zip(times, times[1:])), 0.7)
+            self.assertEqual(server.ended(), well("1 finished", "1 finished"))
+
+    def test_what_is_held_as_the_last_connection_ends_is_sent_whole(self):
+        # Each of them reads once the server has nothing more to do for it than that, and no connection comes after them.
+        sizes = (100_000, 1_000_000, 3_000_000, 5_000_001)
+        with self.serves("handles", len(sizes)) as server:
+            lines = [server.connect(4_096) for _ in sizes]
+            for line, size in zip(lines, sizes):
+                line.sendall(b"GET /bytes/%d HTTP/1.1\r\nHost: a\r\nConnection: close\r\n\r\n" % size)
+            time.sleep(0.5)
+            with ThreadPoolExecutor(len(sizes)) as pool:
+                bodies = [it.partition(b"\r\n\r\n")[2] for it in pool.map(read_all, lines)]
+            for line in lines:
+                line.close()
+            self.assertEqual([(len(it), set(it)) for it in bodies], [(size, {ord("b")}) for size in sizes])
+            self.assertEqual(server.ended(), well(*["1 finished"] * len(sizes)))
+
+
+@asks(ONE, FOUR, WORKERS)
+class Soon(Case):
+    """That a word of a session comes back at once, and not when somebody looks."""
+
+    def median(self, line):
+        """How long it takes until a word comes back, in the middle of so many, with a while of silence before each."""
+        waits = []
+        for number in range(40):
+            time.sleep(0.06)
+            word = b"%05d" % number
+            began = time.monotonic()
+            line.sendall(b"\x81\x85\0\0\0\0" + word)
+            self.assertEqual(line.recv(100), b"\x81\x05" + word)
+            waits.append(time.monotonic() - began)
+        return sorted(waits)[len(waits) // 2]
+
+    def test_a_word_comes_back_at_once(self):
+        # One who looks does so each 5 milliseconds. Where others have the processors it is tried again.
+        with self.serves("wsecho", 1) as server:
+            with server.connect() as line:
+                line.setsockopt(socket.IPPROTO_TCP, socket.TCP_NODELAY, 1)
+                line.sendall(HANDSHAKE)
+                self.assertTrue(line.recv(1 << 16).endswith(b"\r\n\r\n"))
+                self.assertTrue(any(self.median(line) < 0.0012 for _ in range(5)))
+                line.sendall(b"\x88\x80\0\0\0\0")
+                self.assertEqual(read_all(line), b"\x88\0")
+            self.assertEqual(server.ended(), well("1 finished"))
+
+
 @asks(ONE, FOUR, WORKERS)
 class Little(Case):
     """A server with few descriptors, or with little memory, under many clients."""

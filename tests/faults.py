@@ -7,11 +7,12 @@ Calls fail by a library that is preloaded (tests/fail_once.c), which gcc builds 
 limit of the system. What accept(2) says of its errors is the source of the first table. The clients are sockets of this
 script and Python's `http.client`. Each server is started by its test, and has ended at its end.
 
---edits: tries the edits of tests/faults, which no clause can see: each takes a cure back. The program is proved and built anew
-with each in a copy of this tree, over the work that a check kept here, and the test that the edit names must fail. It takes
-minutes an edit, and is no part of the gate.
+--edits: tries the edits of tests/faults, which no clause can see: each takes a cure back. The programs are proved and built anew
+with each in a copy of this tree, over the work that a check kept here, and the test that the edit names must fail, of this script or
+of the one before its name. It takes minutes an edit, and is no part of the gate.
 """
 
+import contextlib
 import errno
 import http.client
 import os
@@ -445,7 +446,7 @@ def ask_in_vain(server):
 def try_edit(name):
     """Returns what is wrong with an edit of tests/faults: its test does not fail with it, or nothing can be built."""
     with open(f"{TOP}/tests/faults/{name}.edit", encoding="utf-8") as it:
-        test, file, old, new = re.fullmatch(r"fails: (\w+)\nfile: (\S+)\nold: (.*)\nnew: (.*)\n", it.read()).groups()
+        script, test, file, old, new = re.fullmatch(r"fails: (?:(\w+)\.py )?(\w+)\nfile: (\S+)\nold: (.*)\nnew: (.*)\n", it.read()).groups()
     with tempfile.TemporaryDirectory() as room:
         shutil.copytree(TOP, f"{room}/tree", ignore=shutil.ignore_patterns(".git"), copy_function=shutil.copy2)
         with open(f"{room}/tree/{file}", encoding="utf-8") as it:
@@ -454,15 +455,17 @@ def try_edit(name):
             return f"its old text is in {file} {text.count(old)} times"
         with open(f"{room}/tree/{file}", "w", encoding="utf-8") as it:
             it.write(text.replace(old, new))
-        program = f"{room}/tree/crates/asgi_demo/out/asgi_demo"
-        if os.path.exists(program):
-            os.remove(program)
-        built = subprocess.run(["rt", "run"], cwd=f"{room}/tree/crates/asgi_demo", stdin=subprocess.DEVNULL, capture_output=True, check=False)
-        if not os.path.exists(program):
-            return f"no program is built with it: {(built.stdout + built.stderr).decode(errors='replace')[-500:]}"
-        tried = subprocess.run([sys.executable, __file__, program, test], capture_output=True, check=False)
-        said = tried.stdout.decode().rstrip("\n").rpartition("\n")[2]
-        return None if said == "0 passed, 1 failed" else f"{test} says: {said}"
+        # A test of another script asks each server; those that are no fault of it pass.
+        programs = [f"{room}/tree/crates/{it}/out/{it}" for it in (["asgi_demo", "server_for_tests"] if script else ["asgi_demo"])]
+        for program in programs:
+            with contextlib.suppress(FileNotFoundError):
+                os.remove(program)
+            built = subprocess.run(["rt", "run"], cwd=os.path.dirname(os.path.dirname(program)), stdin=subprocess.DEVNULL, capture_output=True, check=False)
+            if not os.path.exists(program):
+                return f"no program is built with it: {(built.stdout + built.stderr).decode(errors='replace')[-500:]}"
+        words = [sys.executable, f"{room}/tree/tests/{script or 'faults'}.py", programs[0], test]
+        said = subprocess.run(words, capture_output=True, check=False).stdout.decode().rstrip("\n").rpartition("\n")[2]
+        return None if re.fullmatch(r"\d passed, [1-9] failed" if script else "0 passed, 1 failed", said) else f"{test} says: {said}"
 
 
 def try_edits(names):
