@@ -47,6 +47,8 @@ PARTS = [
     ("counts of instructions", ["python3", "tests/instructions.py", PROGRAM]),
     ("self-tests of the gate's scripts", ["python3", "tests/fuzz.py", "--self-test", PROGRAM]),
     ("inputs of a fuzzer", ["python3", "tests/fuzz.py", "--seconds", "60", PROGRAM]),
+    ("self-tests of the gate's scripts", ["python3", "tests/fuzz_sockets.py", "--self-test", PROGRAM]),
+    ("clients of a fuzzer", ["python3", "tests/fuzz_sockets.py", "--seconds", "30", PROGRAM]),
     ("further edits refused", ["python3", "tests/must_fail.py", "--beside"]),
 ]
 SUM = re.compile(r"(\d+) passed, (\d+) failed")
