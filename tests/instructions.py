@@ -1,15 +1,18 @@
 #!/usr/bin/env python3
-"""instructions.py PROGRAM: whether a request of the built program takes more instructions than the repository says.
+"""instructions.py PROGRAM [SERVER]: whether a request of the built programs takes more instructions than the repository says.
 
-Each row is an input of `asgi_demo once`. valgrind's callgrind counts the instructions of the program and its libraries, not
-those of the system: a run with many requests less one with few, divided by the requests between them. A count depends on the
-input, and on no load. The C library is told to copy, fill and search by instructions that each processor of the kind has, so
-that a row counts the same on each; docs/PERFORMANCE.md counts with those of the machine, so its figures are others.
+Each row is an input of `asgi_demo once`, or of one connection to a server of one thread (`crates/server_for_tests`). valgrind's
+callgrind counts the instructions of the program and its libraries, not those of the system: a run with many requests less one
+with few, divided by the requests between them. A count depends on the input, and on no load: the client of a server sends once
+it has the answer to all before and the server waits, so that each run has the same turns. (Those that time brings are counted
+too: one a second, and in a session one in ten milliseconds, up to 2 % of its row where the machine is busy.) The C library is
+told to copy, fill and search by instructions that each processor of the kind has, so that a row counts the same on each;
+docs/PERFORMANCE.md counts with those of the machine, so its figures are others.
 
 A row fails if its count is more than 5 % over its figure in tests/instructions.txt, if it has no figure that can be read, or
 if its run fails. One that is more than 5 % below its figure is shown, so that the figures are renewed, by
 
-    instructions.py --write PROGRAM
+    instructions.py --write PROGRAM [SERVER]
 
 With --self-test it compares counts with figures of its own. The last line is 'N passed, M failed'.
 """
@@ -19,6 +22,7 @@ import fcntl
 import os
 import re
 import shutil
+import socket
 import subprocess
 import sys
 import tempfile
@@ -26,7 +30,10 @@ import termios
 import time
 from typing import NamedTuple
 
-FIGURES = f"{os.path.dirname(os.path.realpath(__file__))}/instructions.txt"
+from servers import TOP, free_port, listens
+
+FIGURES = f"{TOP}/tests/instructions.txt"
+SERVER = f"{TOP}/crates/server_for_tests/out/server_for_tests"
 MARGIN = 5
 SECONDS = 300
 # A byte that is copied by wider registers, or by one repeated instruction, counts less or more: the C library is to do without
@@ -50,6 +57,11 @@ HANDSHAKE = (
 MESSAGE, ECHOED = b"\x82\xfe\x04\x00" + bytes(4) + b"a" * 1024, b"\x82\x7e\x04\x00" + b"a" * 1024
 CLOSE = b"\x88\x82" + bytes(4) + b"\x03\xe8"
 OK = b"HTTP/1.1 200 OK\r\n"
+# What a content in chunks ends with (RFC 9112, 7.1).
+LAST = b"\r\n0\r\n\r\n"
+HEAD_END = b"\r\n\r\n"
+# What a server of one connection writes on standard error.
+LOGGED = re.compile(rb".*listening on .*\n.*connection 1: .*, finished\n")
 
 
 def padded(text, size):
@@ -62,8 +74,9 @@ def post(size):
 
 
 class Row(NamedTuple):
-    """What is counted: the application, the requests of both runs, what stands before, in and after them, what each answer
-    has, how many bytes it has at least, and whether each byte comes alone."""
+    """What is counted: the application, the texts of both runs, what stands before, in and after them, what each answer to
+    one has, how many bytes it has at least, and whether each byte comes alone. Of a server, what each answer ends with, and
+    how many answers a text has."""
 
     app: str
     few: int
@@ -74,13 +87,15 @@ class Row(NamedTuple):
     before: bytes = b""
     after: bytes = b""
     comes_alone: bool = False
+    end: bytes = b""
+    answers: int = 1
 
     def given(self, number):
         return self.before + self.text * number + self.after
 
     def is_answer(self, output, number):
         """Returns whether this is an output for so many requests. What an answer is to be is tested elsewhere."""
-        return output.count(self.answer) == number and len(output) >= number * self.least
+        return output.count(self.answer) == number * self.answers and len(output) >= number * self.least
 
 
 ROWS = {
@@ -90,6 +105,11 @@ ROWS = {
     "once echo, 1 KiB by length": Row("echo", 500, 2500, post(1024), least=1024),
     "once echo, 64 KiB by length": Row("echo", 20, 100, post(65536), least=65536),
     "once wsecho, messages of 1 KiB": Row("wsecho", 500, 2500, MESSAGE, answer=ECHOED, before=HANDSHAKE, after=CLOSE),
+    "server hello, requests of 27 bytes": Row("hello", 200, 1200, HEAD + b"\r\n", end=LAST),
+    "server hello, 16 requests of 27 bytes at once": Row("hello", 20, 120, (HEAD + b"\r\n") * 16, end=LAST, answers=16),
+    "server echo, 64 KiB by length": Row("echo", 10, 60, post(65536), least=65536, end=LAST),
+    "server wsecho, messages of 1 KiB": Row("wsecho", 200, 1200, MESSAGE, answer=ECHOED, end=ECHOED, before=HANDSHAKE, after=CLOSE),
+    "server handles, a text of JSON": Row("handles", 200, 1200, b"GET /json HTTP/1.1\r\nHost: a\r\n\r\n", end=b"}"),
 }
 
 
@@ -97,27 +117,52 @@ class Odd(Exception):
     """Why there is no count of a row."""
 
 
-class Counting:
-    """Counts the instructions of a program, which stands in a folder under a name of the same length each time."""
+def wait_until_idle(ran, until):
+    """Waits until a process of one thread waits for the system."""
+    while True:
+        with open(f"/proc/{ran.pid}/stat", encoding="ascii") as it:
+            if it.read().rpartition(")")[2].split()[0] == "S":
+                return
+        if ran.poll() is not None or time.monotonic() > until:
+            raise Odd(f"it ended early, or did not wait within {SECONDS} seconds")
+        time.sleep(0)
 
-    def __init__(self, program, room):
+
+def answer_of(line, end, count):
+    """Reads what has this end so many times."""
+    text = b""
+    while text.count(end) < count:
+        piece = line.recv(1 << 16)
+        if not piece:
+            raise Odd(f"the connection ended behind {text[-300:]!r}")
+        text += piece
+    return text
+
+
+class Counting:
+    """Counts the instructions of programs, which stand in a folder under names of the same length each time."""
+
+    def __init__(self, program, server, room):
         self.room = room
         os.symlink(os.path.abspath(program), f"{room}/program")
+        os.symlink(os.path.abspath(server), f"{room}/server")
 
     def run(self, row, number):
-        """Returns the instructions of a run with so many requests."""
-        words = ["valgrind", "--tool=callgrind", "--callgrind-out-file=/dev/null", f"--log-file={self.room}/log", "./program", "once", row.app]
+        """Returns the instructions of a run with so many texts."""
+        words = ["valgrind", "--tool=callgrind", "--callgrind-out-file=/dev/null", f"--log-file={self.room}/log"]
         how = {"cwd": self.room, "env": {"PATH": os.environ.get("PATH", ""), "GLIBC_TUNABLES": LIBRARY}}
         with open(f"{self.room}/output", "w+b") as output, open(f"{self.room}/errors", "w+b") as errors:
             how |= {"stdout": output, "stderr": errors}
-            if row.comes_alone:
-                status = self.feed(words, row.given(number), how)
+            if row.end:
+                status = self.ask([*words, "./server"], row, number, how, output)
+            elif row.comes_alone:
+                status = self.feed([*words, "./program", "once", row.app], row.given(number), how)
             else:
-                status = self.give(words, row.given(number), how)
+                status = self.give([*words, "./program", "once", row.app], row.given(number), how)
             output.seek(0)
             errors.seek(0)
             output, errors = output.read(), errors.read()
-        if status or errors:
+        if status or not (LOGGED.fullmatch(errors) if row.end else not errors):
             raise Odd(f"the run has status {status}, and says {errors[-300:]!r}")
         if not row.is_answer(output, number):
             raise Odd(f"{number} requests are answered {output[:300]!r}.., {len(output)} bytes")
@@ -155,8 +200,33 @@ class Counting:
             finally:
                 ran.kill()
 
+    def ask(self, words, row, number, how, output):
+        """Serves one client, who writes down what it is sent. Returns the server's status."""
+        port, until = free_port(), time.monotonic() + SECONDS
+        with subprocess.Popen([*words, str(port), "1", row.app, "slots=16"], stdin=subprocess.DEVNULL, **how) as ran:
+            try:
+                while not listens(port):
+                    if ran.poll() is not None or time.monotonic() > until:
+                        raise Odd("the server does not listen")
+                    time.sleep(0.01)
+                with socket.create_connection(("127.0.0.1", port), timeout=SECONDS) as line:
+                    steps = [(row.before, HEAD_END, 1)] * bool(row.before) + [(row.text, row.end, row.answers)] * number
+                    for text, end, count in steps:
+                        wait_until_idle(ran, until)
+                        line.sendall(text)
+                        output.write(answer_of(line, end, count))
+                    line.sendall(row.after)
+                    line.shutdown(socket.SHUT_WR)
+                    while piece := line.recv(1 << 16):
+                        output.write(piece)
+                return ran.wait(SECONDS)
+            except (OSError, subprocess.TimeoutExpired) as error:
+                raise Odd(str(error)) from None
+            finally:
+                ran.kill()
+
     def count(self, row):
-        """Returns the instructions of one request."""
+        """Returns the instructions of one text."""
         return round((self.run(row, row.many) - self.run(row, row.few)) / (row.many - row.few))
 
 
@@ -201,10 +271,10 @@ def install():
     return bool(shutil.which("valgrind"))
 
 
-def counts_of(program):
+def counts_of(program, server):
     """Yields each row's name with its count and None, or with None and why there is no count."""
     with tempfile.TemporaryDirectory(prefix="instructions-") as room:
-        counting = Counting(program, room)
+        counting = Counting(program, server, room)
         for name, row in ROWS.items():
             try:
                 yield name, counting.count(row), None
@@ -212,21 +282,21 @@ def counts_of(program):
                 yield name, None, odd
 
 
-def check(program):
-    """Compares the counts of a program with the figures. Yields whether each row passes, and what is said of it."""
+def check(program, server):
+    """Compares the counts of the programs with the figures. Yields whether each row passes, and what is said of it."""
     try:
         with open(FIGURES, encoding="utf-8") as it:
             text = it.read()
     except (OSError, UnicodeDecodeError) as error:
         yield False, f"the figures can't be read: {error}"
         return
-    yield from judged(text, counts_of(program))
+    yield from judged(text, counts_of(program, server))
 
 
-def write(program):
-    """Writes the counts of a program as the figures, if each row has one. Yields of each whether it has, and what is said of it."""
+def write(program, server):
+    """Writes the counts of the programs as the figures, if each row has one. Yields of each whether it has, and what is said of it."""
     lines, failed = [], False
-    for name, count, why in counts_of(program):
+    for name, count, why in counts_of(program, server):
         yield why is None, f"{name}: {count if why is None else why}"
         lines.append(f"{name}: {count}\n")
         failed = failed or why is not None
@@ -267,6 +337,9 @@ def self_test():
     for count, body, is_answer in ((3, echo.least, True), (2, 2 * echo.least, False), (3, 0, False)):
         is_told = echo.is_answer((OK + bytes(body)) * count, 3) == is_answer
         yield is_told, f"self-test: {count} answers with {body} bytes pass for three, or the other way round"
+    batch = next(row for row in ROWS.values() if row.answers > 1)
+    for count, is_answer in ((3 * batch.answers, True), (3 * batch.answers - 1, False), (3, False)):
+        yield batch.is_answer(OK * count, 3) == is_answer, f"self-test: {count} answers pass for three batches, or the other way round"
 
 
 def main(words):
@@ -275,7 +348,8 @@ def main(words):
     elif not install():
         found = [(False, "valgrind can't be had")]
     else:
-        found = write(words[1]) if words[0] == "--write" else check(words[0])
+        programs = [it for it in words if it != "--write"]
+        found = (write if words[0] == "--write" else check)(*[*programs, SERVER][:2])
     passed = failed = 0
     for is_right, said in found:
         if not is_right or words != ["--self-test"]:
