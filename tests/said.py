@@ -37,7 +37,8 @@ NUMBERS = [
     (SEATS, "TURNS_A_SECOND", OPERATING, "{} of them are a second in one thread"),
     (PACE, "LONGEST_PAUSE", OPERATING, "a pause counts at most {}"),
     (REACTOR, "FLAG_WAIT", OPERATING, "(looked at every {} ms)"),
-    (QUEUE, "CLOSING_TICKS", OPERATING, "and it sends on | {} s |"),
+    (SEATED, "LINGER", OPERATING, "and it sends on | {} s, 64 MiB"),
+    (SEATED, "LINGER_SILENT", OPERATING, "or {} s of silence | 1 s |"),
     (QUEUE, "BEAT", GUIDE, "polled about every {} ms"),
     (QUEUE, "IN_A_MILLISECOND", GUIDE, "one millisecond later for each {} sessions that wait"),
     (ACCEPTING, "LOST_IN_A_ROW", OPERATING, "with workers also {:,} lost connections in a row"),
@@ -52,6 +53,7 @@ NUMBERS = [
 RECKONED = [
     (OPERATING, "between two | dropped after {} s |", lambda: number(LIMITS, "idle_turns") // number(SEATS, "TURNS_A_SECOND")),
     (README, "A silent client is dropped after {} seconds", lambda: number(LIMITS, "idle_turns") // number(SEATS, "TURNS_A_SECOND")),
+    (OPERATING, "and it sends on | 30 s, {} MiB,", lambda: number(SEATED, "LINGER_BYTES") >> 20),
     (OPERATING, "| {} s, then it ends |", lambda: number(ACCEPTING, "SHORT_IN_A_ROW") * number(ACCEPTING, "SHORT_WAIT") // 1_000),
     (GUIDE, "with 1,000 of them about every {} ms", lambda: number(QUEUE, "BEAT") + 1_000 // number(QUEUE, "IN_A_MILLISECOND")),
     (README, "`crates/asgi_conversation/specs/Conversation.antt`, {} lines", lambda: text_of("crates/asgi_conversation/specs/Conversation.antt").count("\n")),

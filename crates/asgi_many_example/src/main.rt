@@ -6,7 +6,7 @@ mod words;
 
 use asgi_apps::{Application, Echo, Hello, WsEcho};
 use asgi_many::Served;
-use asgi_reactor::{Numbers, SocketReactor, serve_in_thread};
+use asgi_reactor::{Linger, Numbers, SocketReactor, serve_in_thread};
 use asgi_types::{BadLimit, Limits, State};
 use std::io::{self, Write};
 use std::process::ExitCode;
@@ -25,6 +25,13 @@ const SLOW: u32 = 60;
 
 /// For how many ticks exchanges and sessions go on once the server is to end.
 const LEAVE: u32 = 30;
+
+/// How long a client is read after its answer: for 30 ticks, 5 without a byte, or 64 MiB.
+const LINGER: Linger = Linger {
+    ticks: 30,
+    silent: 5,
+    bytes: 67_108_864,
+};
 
 fn main(rt: HostRuntime) -> ExitCode {
     let Some(words) = words_of(&rt) else {
@@ -53,6 +60,7 @@ fn serve<A: Application>(rt: &HostRuntime, words: &Words, app: &A) -> io::Result
         least: LEAST,
         slow: SLOW,
         leave: LEAVE,
+        linger: LINGER,
     };
     let mut reactor = SocketReactor::open(rt, rt.alloc(), words.address, &numbers, None)?;
     let mut out = io::writer(rt);

@@ -2,4 +2,5 @@ pub mod private
 pub mod Accepting
 pub mod Faults
 pub mod Holding
+pub mod Lingering
 pub mod Pacing

@@ -2,8 +2,10 @@
 //! system says that they are ready.
 #![tactic(auto)]
 
+mod draining;
 mod faults;
 mod held;
+mod lingering;
 mod numbers;
 mod pace;
 mod peers;
@@ -17,7 +19,9 @@ mod thread;
 pub use asgi_many::{
     Departure, Move, Next, Reactor, Ready, Rest, Served, Standing, Teller, serve_many,
 };
+pub use draining::{Drained, Left, drain};
 pub use held::{Held, Took};
+pub use lingering::{Linger, Lingering};
 pub use numbers::Numbers;
 pub use pace::Pace;
 pub use polled::Polled;

@@ -1,4 +1,5 @@
 //! The numbers of a reactor.
+use crate::lingering::Linger;
 use std::time::Duration;
 
 /// The numbers of a reactor.
@@ -19,4 +20,6 @@ pub struct Numbers {
     /// For how many ticks exchanges and sessions go on once the flag is set. Connections between two requests end at once, and
     /// sessions are told at once.
     pub leave: u32,
+    /// How long a client is read after its answer.
+    pub linger: Linger,
 }

@@ -1,4 +1,6 @@
 //! What is known of a socket that was registered.
+use crate::draining::Left;
+use crate::lingering::{Linger, Lingering};
 use crate::pace::Pace;
 use crate::polled::Polled;
 use asgi_leaving::LeavingLine;
@@ -26,8 +28,8 @@ pub(crate) enum Use {
 #[derive(Drop)]
 pub(crate) struct Closing {
     line: PolledLine,
-    /// For so many ticks at the most.
-    ticks: u32,
+    /// For how long it is read.
+    lingering: Lingering,
     /// In how many ticks in a row nothing of what waits for room has left.
     stuck: u32,
 }
@@ -101,25 +103,30 @@ fn after_tick(stuck: u32, polled: &Polled) -> u32 {
 }
 
 impl Closing {
-    /// The line of a connection that has ended, whose peer has so many ticks to close it too.
-    pub(crate) fn new(line: PolledLine, ticks: u32) -> Closing {
+    /// The line of a connection that has ended, whose peer has so long to close it too.
+    pub(crate) fn new(line: PolledLine, linger: Linger) -> Closing {
         Closing {
             line,
-            ticks,
+            lingering: Lingering::new(linger),
             stuck: 0,
         }
     }
 
-    /// Goes on to close it. Whether it is closed.
-    pub(crate) fn is_closed(&self) -> bool {
-        match socket_of(&self.line) {
-            Some(polled) => polled.close(),
-            None => true,
+    /// Goes on to close it.
+    pub(crate) fn go_on(&mut self) -> Left {
+        let Some(polled) = socket_of(&self.line) else {
+            return Left::Nothing;
+        };
+        let left = polled.close();
+        self.lingering.hear(polled.came());
+        if left == Left::More && self.lingering.is_over() {
+            return Left::Nothing;
         }
+        left
     }
 
-    /// A tick has passed. Whether it was to be closed for long enough: it has shut its write half for some ticks, or nothing of what
-    /// waits has left for this many.
+    /// A tick has passed. Whether it was to be closed for long enough: its write half is shut, and its client was read for as long as it
+    /// is, or nothing of what waits has left for this many ticks.
     pub(crate) fn is_late(&mut self, patience: u32) -> bool {
         let Some(polled) = socket_of(&self.line) else {
             return true;
@@ -128,8 +135,8 @@ impl Closing {
             self.stuck = after_tick(self.stuck, polled);
             return self.stuck >= patience;
         }
-        self.ticks = self.ticks.saturating_sub(1);
-        self.ticks == 0
+        self.lingering.tick();
+        self.lingering.is_over()
     }
 }
 

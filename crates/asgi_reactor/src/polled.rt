@@ -1,4 +1,5 @@
 //! A socket that never waits.
+use crate::draining::{Left, drain};
 use crate::held::{Held, JOINED, Took};
 use asgi_ahead::Ahead;
 use asgi_io::is_passing;
@@ -7,12 +8,6 @@ use std::alloc::Global;
 use std::cell::{Cell, RefCell};
 use std::io::{self, ErrorKind, Read, Write};
 use std::net::Shutdown;
-
-/// How many bytes are read at a time of a connection that is being closed.
-const DRAINED: usize = 4_096;
-
-/// How many reads in a row are made of a connection that is being closed.
-const READS: u32 = 16;
 
 /// A socket that never waits. It is read only once it was told that something may be there, until a read found less than
 /// it had room for; after one that filled its room more is read at once than is asked for (`Ahead`), and the next reads give
@@ -29,7 +24,7 @@ pub struct Polled {
     is_readable: Cell<bool>,
     // The peer sends no more, or the socket failed: each read tells at once.
     is_ended: Cell<bool>,
-    // How many bytes were given since it was asked for.
+    // How many bytes were given, or dropped, since it was asked for.
     came: Cell<u64>,
     // Nothing more is read.
     is_deaf: Cell<bool>,
@@ -77,7 +72,7 @@ impl Polled {
         self.is_ended.set(true);
     }
 
-    /// How many bytes were given since this was asked the last time.
+    /// How many bytes were given, or dropped as it is closed, since this was asked the last time.
     pub fn came(&self) -> u64 {
         self.came.replace(0)
     }
@@ -157,36 +152,30 @@ impl Polled {
     }
 
     /// Goes on to close the connection: writes what is held, shuts the write half, and reads what the peer still sends
-    /// (RFC 9112, section 9.6), each time it is asked, the first time only if something may be there. Whether it may be closed now:
-    /// the peer has closed it too, or it failed.
-    pub fn close(&self) -> bool {
+    /// (RFC 9112, section 9.6), each time it is asked, the first time only if something may be there. `came` has how much that was.
+    pub fn close(&self) -> Left {
         if !self.push() {
-            return false;
+            return Left::Later;
         }
         if !self.is_shut.get() {
             self.is_shut.set(true);
+            self.came.set(0);
             if self.stream.shutdown(Shutdown::Write).is_err() {
-                return true;
+                return Left::Nothing;
             }
             if !self.is_readable.get() {
-                return false;
+                return Left::Later;
             }
         }
-        self.drain()
+        let mut stream = &self.stream;
+        let drained = drain(&mut stream);
+        self.note_came(drained.count);
+        drained.left
     }
 
-    /// Reads and drops what is there. Whether that was all that comes.
-    fn drain(&self) -> bool {
-        let mut piece = [0; DRAINED];
-        for _read in 0..READS {
-            let mut stream = &self.stream;
-            match stream.read(&mut piece) {
-                Ok(0) => return true,
-                Ok(_) => {}
-                Err(e) => return !is_passing(&e),
-            }
-        }
-        false
+    /// So many more bytes were given, or dropped.
+    fn note_came(&self, many: usize) {
+        self.came.set(self.came.get().saturating_add(many as u64));
     }
 
     /// Whether a read may find something: what was read ahead, or what the socket has. What is held has left before the socket
@@ -224,7 +213,7 @@ impl Read for Polled {
         let read = ahead.read(&mut self.stream, buf);
         let was_filled = ahead.was_filled();
         if let Ok(many) = &read {
-            self.came.set(self.came.get().saturating_add(*many as u64));
+            self.note_came(*many);
         }
         if is_of_socket {
             self.note(&read, was_filled);

@@ -1,4 +1,10 @@
 //! The sockets that were registered, and those of them that are to be taken up.
+ghost use Rattle.std.specs.Prelude.{◌≡◌};
+ghost use Rattle.asgi_reactor.specs.declared.draining.Left.TheVariants.{More};
+ghost use Rattle.asgi_reactor.specs.private.Queueing.{Waits};
+
+use crate::draining::Left;
+use crate::lingering::Linger;
 use crate::numbers::Numbers;
 use crate::place::{Clocked, Closing, Place, PolledLine, Use, is_exchange, socket_of};
 use asgi_many::{Ready, Rest};
@@ -17,9 +23,6 @@ const BEAT: u64 = 10;
 
 const IN_A_MILLISECOND: u64 = 20;
 
-/// How many ticks a connection that has ended is kept for its peer to close it too.
-const CLOSING_TICKS: u32 = 2;
-
 /// The sockets that were registered, under their tokens, and those that are to be taken up.
 #[derive(Drop)]
 pub(crate) struct Queue {
@@ -36,6 +39,8 @@ pub(crate) struct Queue {
     round: usize,
     /// For how many ticks in a row nothing of what waits for room may leave.
     patience: u32,
+    /// How long a connection that has ended is kept for its peer to close it too.
+    linger: Linger,
     /// How many are in an exchange that waits.
     exchanges: u64,
     clocked: Clocked,
@@ -65,6 +70,7 @@ impl Queue {
             turns: 0,
             round: 0,
             patience: numbers.patience,
+            linger: numbers.linger,
             exchanges: 0,
             clocked: Clocked {
                 now: 0,
@@ -120,7 +126,9 @@ impl Queue {
     }
 
     /// The socket with this token waits to be taken up.
-    fn push(&mut self, token: usize) {
+    fn push(&mut self, token: usize)
+        ensures waits { Waits self.old self.new token }
+    {
         let Some(place) = self.places.get_mut(token) else {
             return;
         };
@@ -278,7 +286,7 @@ impl Queue {
             return;
         };
         // `make_room` has made room for it.
-        let Ok(key) = self.closing.insert(Closing::new(line, CLOSING_TICKS)) else {
+        let Ok(key) = self.closing.insert(Closing::new(line, self.linger)) else {
             return self.remove(token);
         };
         place.usage = Use::Closing(key);
@@ -291,12 +299,22 @@ impl Queue {
         let Some(key) = self.closing_of(token) else {
             return;
         };
-        let is_closed = match self.closing.get(key) {
-            Some(closing) => closing.is_closed(),
-            None => true,
+        let left = match self.closing.get_mut(key) {
+            Some(closing) => closing.go_on(),
+            None => Left::Nothing,
         };
-        if is_closed {
-            self.remove(token);
+        self.leave_for(token, left);
+    }
+
+    /// Of the line with this token so much is left. Of what may be read at once the system tells nothing more, so it waits to be
+    /// taken up again, behind the others.
+    fn leave_for(&mut self, token: usize, left: Left)
+        ensures more { left ≡ More → Waits self.old self.new token }
+    {
+        match left {
+            Left::Nothing => self.remove(token),
+            Left::Later => {}
+            Left::More => self.push(token),
         }
     }
 

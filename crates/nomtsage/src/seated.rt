@@ -13,7 +13,7 @@ use crate::stop::flag_of;
 use crate::tellers::Tells;
 use asgi_apps::Application;
 use asgi_conn::{Host, Report};
-use asgi_reactor::{Numbers, PolledLine, SocketReactor};
+use asgi_reactor::{Linger, Numbers, PolledLine, SocketReactor};
 use asgi_server::{OnEnd, Teller};
 use asgi_types::Limits;
 use asgi_ws::Line;
@@ -36,6 +36,15 @@ const SLOW: u32 = 60;
 
 /// For how many seconds exchanges and sessions go on once the server is to end.
 const LEAVE: u32 = 30;
+
+/// For how many seconds a client that goes on sending is read after its answer.
+const LINGER: u32 = 30;
+
+/// For how many seconds in a row it may send nothing then.
+const LINGER_SILENT: u32 = 5;
+
+/// How many bytes are read of it then.
+const LINGER_BYTES: u64 = 67_108_864;
 
 impl<'a, K: Teller<Report> + Drop, E: OnEnd + Drop> Server<'a, K, E, InSeats> {
     /// Listens, starts the application, serves each connection, and stops the application once there are no more: after
@@ -110,6 +119,11 @@ pub(crate) fn numbers_of(seats: usize, count: u64) -> Numbers
         least: LEAST,
         slow: SLOW,
         leave: LEAVE,
+        linger: Linger {
+            ticks: LINGER,
+            silent: LINGER_SILENT,
+            bytes: LINGER_BYTES,
+        },
     }
 }
 
