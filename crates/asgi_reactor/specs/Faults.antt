@@ -47,7 +47,7 @@ fault_of None of_kind = fault_of_kind of_kind
 abbrev pub HasFailed : Option Error → Type 0
 HasFailed why = IsSomeAnd why (λ e. fault_of (raw_os_error e) (error_kind e) ≡ Lasting)
 
--- Why no connection will be accepted any more: all that were to be have been, the listener has failed, a flag that there is was found set, or
--- a quota that there is is spent.
+-- Why no connection will be accepted any more: all that were to be have been, the listener has failed, or there is a flag or a quota. That the
+-- flag was found set, or the quota spent, is not said here, since no clause knows what an atomic holds.
 abbrev pub IsOver : {F Q : Type 0} → ℕ → Option Error → Option F → Option Q → Type 0
 IsOver left why flag quota = (left ≡ 0) ⊎ IsSome why ⊎ IsSome flag ⊎ IsSome quota
