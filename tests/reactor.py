@@ -1,18 +1,19 @@
 #!/usr/bin/env python3
-"""How the server in one thread ends connections: the program of `crates/asgi_many_example`.
+"""How the server in one thread ends connections and itself: the programs of `crates/asgi_many_example` and `crates/nomtsage_example`.
 
 Usage: reactor.py [TEST..]. The last line is 'N passed, M failed', and the status is 0 only with none failed.
 The clients are Python's `http.client` and sockets of this script. Each server is started by its test, and has ended at its end.
 """
 
 import http.client
+import socket
 import sys
 import threading
 import time
 import unittest
 
 from seats import Server, body_of, post, sums
-from servers import SECONDS, read_all
+from servers import GET, GREETING, SECONDS, Own, read_all
 
 MEGABYTE = 1_000_000
 # After how many bytes a client that sends on after its answer is left, and after how many ticks at the most, and of silence.
@@ -49,6 +50,23 @@ def send_on(line, pause=0.0, each=1 << 16):
             time.sleep(pause)
     except ConnectionError:
         return taken
+
+
+def is_refused(port):
+    """Whether who connects to this port is refused at once."""
+    try:
+        socket.create_connection(("127.0.0.1", port), timeout=SECONDS).close()
+    except ConnectionRefusedError:
+        return True
+    return False
+
+
+def is_refused_soon(port):
+    """The same after a while: the server looks at its flag each 50 milliseconds."""
+    until = time.monotonic() + QUICK
+    while not (found := is_refused(port)) and time.monotonic() < until:
+        time.sleep(0.02)
+    return found
 
 
 class Answers(unittest.TestCase):
@@ -123,9 +141,41 @@ class Answers(unittest.TestCase):
             self.assertLess(took, LINGER_SILENT + 10)
 
 
+class Ending(unittest.TestCase):
+    """A server that takes no connections any more."""
+
+    def test_who_connects_once_all_have_come_is_refused(self):
+        with Server("hello", 1) as server:
+            with server.connect() as line:
+                line.sendall(GET)
+                self.assertTrue(line.recv(1 << 16).startswith(b"HTTP/1.1 200 "))
+                self.assertTrue(is_refused_soon(server.port))
+                line.sendall(GET)
+                line.shutdown(socket.SHUT_WR)
+                self.assertTrue(read_all(line).endswith(GREETING))
+            self.assertEqual(server.ended(), sums(1, 2))
+
+    def test_who_connects_once_it_is_to_stop_is_refused(self):
+        # The second has one seat, which is taken, so that it asks for no connection.
+        for app, seats in (("seatsends", 8), ("tablesends", 3)):
+            with self.subTest(app=app), Own(app, count=1000, workers=seats) as own:
+                port = own.port()
+                begun = socket.create_connection(("127.0.0.1", port), timeout=SECONDS)
+                with begun:
+                    begun.sendall(b"POST /last HTTP/1.1\r\nHost: a\r\nConnection: close\r\nContent-Length: 3\r\n\r\na")
+                    with socket.create_connection(("127.0.0.1", port), timeout=SECONDS) as line:
+                        line.sendall(b"GET /end HTTP/1.1\r\nHost: a\r\nConnection: close\r\n\r\n")
+                        self.assertIn(b"/end", read_all(line))
+                    self.assertTrue(is_refused_soon(port))
+                    # What was begun goes on.
+                    begun.sendall(b"bc")
+                    self.assertIn(b"/last", read_all(begun))
+                self.assertEqual(own.ended()[1], 0)
+
+
 def main():
     load = unittest.defaultTestLoader
-    tests = [load.loadTestsFromTestCase(it) for it in (Answers,)]
+    tests = [load.loadTestsFromTestCase(it) for it in (Answers, Ending)]
     chosen = unittest.TestSuite(test for part in tests for test in part if not sys.argv[1:] or test._testMethodName in sys.argv[1:])
     result = unittest.TextTestRunner(stream=sys.stdout, verbosity=2).run(chosen)
     failed = len({getattr(test, "test_case", test).id() for test, _ in [*result.failures, *result.errors]})

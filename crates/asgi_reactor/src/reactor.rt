@@ -1,7 +1,7 @@
 //! Where the connections of a port come from, and which of them may go on.
 ghost use Rattle.std.specs.Prelude.{◌≡◌, ◌⊎◌, ◌+◌, ◌++◌, ◌∷◌, [], ℕ, None, IfOk, IsFalse, IsSome, IsTrue};
 ghost use Rattle.asgi_many.specs.Moves.{asked_by};
-ghost use Rattle.asgi_many.specs.declared.reactor.Next.TheVariants.{NoneNow};
+ghost use Rattle.asgi_many.specs.declared.reactor.Next.TheVariants.{NoneEver, NoneNow};
 ghost use Rattle.asgi_reactor.specs.Accepting.{IfArrived, IsNone, IsNoneEver, in_all};
 ghost use Rattle.asgi_reactor.specs.Faults.{HasFailed, IsOver};
 
@@ -48,9 +48,13 @@ const LAST_WAITS: u32 = 1_000_000;
 /// The longest wait if a flag ends the server, in milliseconds.
 const FLAG_WAIT: u64 = 50;
 
+/// The error of a socket that was closed (EBADF).
+const CLOSED: i32 = 9;
+
 /// The connections of a port: at most a number of them, and none once a flag was found set. A seat is named once the
 /// system says that its socket is ready, now and then while its connection waits in an exchange, and at each tick if its
-/// connection has moved nothing since the one before. If no connection can be accepted any more, `why` has the system's error.
+/// connection has moved nothing since the one before. If no connection can be accepted any more, `why` has the system's error. Once none
+/// will come any more its socket is closed, so that who connects then is refused at once.
 /// A want of descriptors or of memory is waited for, from tick to tick.
 #[derive(Drop)]
 pub struct SocketReactor<'a, R: Clock> {
@@ -58,7 +62,8 @@ pub struct SocketReactor<'a, R: Clock> {
     alloc: Global,
     poll: Poll,
     events: Events<Global>,
-    listener: TcpListener,
+    // Until no connection will be accepted any more.
+    listener: Option<TcpListener>,
     // The server of each connection, where it listens at one address.
     own: Option<Peer>,
     queue: Queue,
@@ -110,7 +115,10 @@ impl<'a, R: Net + Clock> SocketReactor<'a, R> {
         ensures nothing { IfOk result (λ r. (r.told.items ≡ []) × (r.why ≡ None)) }
         ensures count { IfOk result (λ r. r.left ≡ numbers.now.count) }
     {
-        let listener = TcpListener::from(self.listener.as_fd().try_clone_to_owned()?);
+        let Some(listener) = &self.listener else {
+            return Err(io::Error::from_raw_os_error(CLOSED));
+        };
+        let listener = TcpListener::from(listener.as_fd().try_clone_to_owned()?);
         SocketReactor::of(
             self.clock, self.alloc, listener, numbers, self.flag, self.quota,
         )
@@ -137,7 +145,7 @@ impl<'a, R: Net + Clock> SocketReactor<'a, R> {
             alloc,
             poll,
             events: Events::with_capacity(alloc, EVENTS)?,
-            listener,
+            listener: Some(listener),
             own,
             queue: Queue::new(alloc, numbers)?,
             left: numbers.count,
@@ -170,9 +178,13 @@ impl<'a, R: Clock> SocketReactor<'a, R> {
 }
 
 impl<R: Clock> SocketReactor<'_, R> {
-    /// The address at which it listens, with the port that the system chose if none was asked for.
+    /// The address at which it listens, with the port that the system chose if none was asked for. An error once it
+    /// listens no more.
     pub fn address(&self) -> io::Result<SocketAddr> {
-        self.listener.local_addr()
+        match &self.listener {
+            Some(listener) => listener.local_addr(),
+            None => Err(io::Error::from_raw_os_error(CLOSED)),
+        }
     }
 
     /// Why no connection can be accepted any more: the system's error, once it has failed.
@@ -223,10 +235,11 @@ impl<R: Clock> SocketReactor<'_, R> {
         ensures some { IfArrived result (λ _. (self.old.left ≡ self.new.left + 1) × (self.new.why ≡ None)) }
         ensures none { IsNone result → self.new.left ≡ self.old.left }
         ensures ever { IsNoneEver result → IsOver self.new.left self.new.why self.new.flag self.new.quota }
+        ensures closed { IsNoneEver result → self.new.listener ≡ None }
         ensures why { (self.new.why ≡ self.old.why) ⊎ HasFailed self.new.why }
     {
         if self.is_over() {
-            return Next::NoneEver;
+            return self.ends();
         }
         if self.has_many_newcomers() {
             return Next::NoneNow;
@@ -248,6 +261,7 @@ impl<R: Clock> SocketReactor<'_, R> {
         ensures some { IfArrived result (λ _. (self.old.left ≡ self.new.left + 1) × (self.new.why ≡ None)) }
         ensures none { IsNone result → self.new.left ≡ self.old.left }
         ensures ever { IsNoneEver result → IsOver self.new.left self.new.why self.new.flag self.new.quota }
+        ensures closed { IsNoneEver result → self.new.listener ≡ None }
         ensures why { (self.new.why ≡ self.old.why) ⊎ HasFailed self.new.why }
     {
         if !quota.take() {
@@ -270,9 +284,10 @@ impl<R: Clock> SocketReactor<'_, R> {
         ensures some { IfArrived result (λ _. (self.old.left ≡ self.new.left + 1) × (self.new.why ≡ None)) }
         ensures none { IsNone result → self.new.left ≡ self.old.left }
         ensures ever { IsNoneEver result → IsOver self.new.left self.new.why self.new.flag self.new.quota }
+        ensures closed { IsNoneEver result → self.new.listener ≡ None }
         ensures why { (self.new.why ≡ self.old.why) ⊎ HasFailed self.new.why }
     {
-        match self.listener.accept() {
+        match self.next_stream() {
             Ok((stream, from)) => match self.take(stream, from, at) {
                 Some(newcomer) => {
                     self.left -= 1;
@@ -284,6 +299,39 @@ impl<R: Clock> SocketReactor<'_, R> {
             },
             Err(e) => self.fails(e),
         }
+    }
+
+    /// The next connection that the system has.
+    fn next_stream(&self) -> io::Result<(TcpStream, SocketAddr)> {
+        match &self.listener {
+            Some(listener) => listener.accept(),
+            None => Err(io::Error::from_raw_os_error(CLOSED)),
+        }
+    }
+
+    /// None will come any more.
+    fn ends(&mut self) -> Next<PolledLine>
+        ensures ever { result ≡ NoneEver }
+        ensures closed { self.new.listener ≡ None }
+        ensures same { (self.new.told ≡ self.old.told) × (self.new.moves ≡ self.old.moves) × (self.new.left ≡ self.old.left) × (self.new.why ≡ self.old.why) }
+        ensures ends { (self.new.flag ≡ self.old.flag) × (self.new.quota ≡ self.old.quota) }
+    {
+        self.stop_listening();
+        Next::NoneEver
+    }
+
+    /// Closes the socket that listens, in this thread. Who has connected and was not accepted is reset, and who connects later is
+    /// refused.
+    fn stop_listening(&mut self)
+        ensures closed { self.new.listener ≡ None }
+        ensures same { (self.new.told ≡ self.old.told) × (self.new.moves ≡ self.old.moves) × (self.new.left ≡ self.old.left) × (self.new.why ≡ self.old.why) }
+        ensures ends { (self.new.flag ≡ self.old.flag) × (self.new.quota ≡ self.old.quota) }
+    {
+        if let Some(listener) = &mut self.listener {
+            // The same socket may be open in other threads, and be told of here, until it is closed there too.
+            let _gone = self.poll.registry().deregister(listener);
+        }
+        self.listener = None;
     }
 
     /// A connection was lost. The next one is asked for at once, unless too many were lost.
@@ -300,6 +348,7 @@ impl<R: Clock> SocketReactor<'_, R> {
     fn fails(&mut self, e: io::Error) -> Next<PolledLine>
         ensures none { IsNone result }
         ensures ever { IsNoneEver result → HasFailed self.new.why }
+        ensures closed { IsNoneEver result → self.new.listener ≡ None }
         ensures why { (self.new.why ≡ self.old.why) ⊎ HasFailed self.new.why }
         ensures same { (self.new.told ≡ self.old.told) × (self.new.moves ≡ self.old.moves) × (self.new.left ≡ self.old.left) }
     {
@@ -315,7 +364,7 @@ impl<R: Clock> SocketReactor<'_, R> {
             }
             Fault::Lasting => {
                 self.why = Some(e);
-                Next::NoneEver
+                self.ends()
             }
         }
     }
@@ -416,6 +465,9 @@ impl<R: Clock> SocketReactor<'_, R> {
         if is_set(self.flag) {
             self.arrived = true;
             self.queue.leave();
+        }
+        if self.is_over() {
+            self.stop_listening();
         }
         if self.is_beat() {
             self.begin_beat();
@@ -521,6 +573,7 @@ impl<R: Clock> Reactor for SocketReactor<'_, R> {
         ensures some { IfArrived result (λ _. (self.old.left ≡ self.new.left + 1) × (self.new.why ≡ None)) }
         ensures none { IsNone result → self.new.left ≡ self.old.left }
         ensures ever { IsNoneEver result → IsOver self.new.left self.new.why self.new.flag self.new.quota }
+        ensures closed { IsNoneEver result → self.new.listener ≡ None }
         ensures why { (self.new.why ≡ self.old.why) ⊎ HasFailed self.new.why }
         ensures kept { in_all self.new.told.items self.new.left ≡ in_all self.old.told.items self.old.left }
     {
