@@ -24,6 +24,8 @@ SCRIPTS = [
     *(["tests/sessions.py", PROGRAM, it] for it in ["OnOnce", *EACH]),
     ["tests/faults.py", PROGRAM],
     ["tests/seats.py"],
+    ["tests/reactor.py"],
+    ["tests/turns.py"],
     ["tests/library.py"],
     ["tests/examples.py"],
     *(["tests/many.py", PROGRAM, it] for it in EACH),

@@ -33,6 +33,7 @@ NUMBERS = [
     (SEATED, "PATIENCE", README, "one that takes nothing after {} seconds"),
     (SEATED, "LEAST", OPERATING, "but fewer than {} in a second | after"),
     (SEATED, "SLOW", OPERATING, "after {} such seconds"),
+    (SEATED, "GIVE_WAY", OPERATING, "is silent longest between two requests is closed, after {} s | waits |"),
     (SEATED, "LEAVE", OPERATING, "what is begun may go on for | {} s |"),
     (SEATS, "TURNS_A_SECOND", OPERATING, "{} of them are a second in one thread"),
     (PACE, "LONGEST_PAUSE", OPERATING, "a pause counts at most {}"),

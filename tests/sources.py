@@ -210,7 +210,7 @@ def unknown_names(text, names):
 
 def unfit(edit, root):
     """Returns what is wrong with an edit of tests/faults: no form of one, or its old text does not stand once in its file."""
-    found = re.fullmatch(r"fails: (\w+)\nfile: (\S+)\nold: (.*)\nnew: (.*)\n", edit)
+    found = re.fullmatch(r"fails: (?:\w+\.py )?(\w+)\nfile: (\S+)\nold: (.*)\nnew: (.*)\n", edit)
     if not found:
         return "it has not the form of an edit"
     try:

@@ -26,6 +26,9 @@ const SLOW: u32 = 60;
 /// For how many ticks exchanges and sessions go on once the server is to end.
 const LEAVE: u32 = 30;
 
+/// After how many silent ticks a connection between two requests gives its seat to a newcomer.
+const GIVE_WAY: u32 = 5;
+
 /// How long a client is read after its answer: for 30 ticks, 5 without a byte, or 64 MiB.
 const LINGER: Linger = Linger {
     ticks: 30,
@@ -60,6 +63,7 @@ fn serve<A: Application>(rt: &HostRuntime, words: &Words, app: &A) -> io::Result
         least: LEAST,
         slow: SLOW,
         leave: LEAVE,
+        give_way: GIVE_WAY,
         linger: LINGER,
     };
     let mut reactor = SocketReactor::open(rt, rt.alloc(), words.address, &numbers, None)?;

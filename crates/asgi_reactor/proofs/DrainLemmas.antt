@@ -7,6 +7,8 @@ use Rattle.std.specs.Io.KnownBytes.{Consumes}
 pub dropped_more : (a b c : Option (List ℕ)) (read piece : List ℕ) (count many : ℕ)
     → Consumes a b read → length read ≡ count → Consumes b c (take many piece) → many ≤ length piece
     → (more : List ℕ) × Consumes a c more × (length more ≡ count + many)
-dropped_more a b c read piece count many first long next most =
-    (read ++ take many piece, Consumes-trans a b c read (take many piece) first next,
-    omega (arith, long, most, length-append read (take many piece), length-take many piece))
+dropped_more a b c read piece count many first long next most = (
+  read ++ take many piece,
+  Consumes-trans a b c read (take many piece) first next,
+  omega (arith, long, most, length-append read (take many piece), length-take many piece),
+)

@@ -4,3 +4,4 @@ pub mod Faults
 pub mod Holding
 pub mod Lingering
 pub mod Pacing
+pub mod Taking

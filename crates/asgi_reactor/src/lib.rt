@@ -15,6 +15,7 @@ mod queue;
 mod quota;
 mod reactor;
 mod thread;
+mod waiting;
 
 pub use asgi_many::{
     Departure, Move, Next, Reactor, Ready, Rest, Served, Standing, Teller, serve_many,
@@ -28,3 +29,4 @@ pub use polled::Polled;
 pub use quota::Quota;
 pub use reactor::{PolledLine, SocketReactor};
 pub use thread::serve_in_thread;
+pub use waiting::{Waiting, Wish};

@@ -20,6 +20,9 @@ pub struct Numbers {
     /// For how many ticks exchanges and sessions go on once the flag is set. Connections between two requests end at once, and
     /// sessions are told at once.
     pub leave: u32,
+    /// After how many silent ticks a connection between two requests gives its seat to a newcomer, if all seats are taken or the
+    /// system has no descriptor for one. The one that has been silent longest does. None does with 0.
+    pub give_way: u32,
     /// How long a client is read after its answer.
     pub linger: Linger,
 }

@@ -3,6 +3,7 @@ use crate::draining::Left;
 use crate::lingering::{Linger, Lingering};
 use crate::pace::Pace;
 use crate::polled::Polled;
+use crate::waiting::Wish;
 use asgi_leaving::LeavingLine;
 use asgi_many::{Rest, Standing};
 use asgi_ws::Wired;
@@ -38,8 +39,8 @@ pub(crate) struct Closing {
 #[derive(Drop)]
 pub(crate) struct Place {
     pub(crate) usage: Use,
-    /// It waits in the queue.
-    pub(crate) is_queued: bool,
+    /// Why it is to be taken up, if it is.
+    pub(crate) wish: Option<Wish>,
     /// Its connection has moved something since the last tick.
     pub(crate) has_moved: bool,
     /// A tick has passed in which it has not, and is to be counted.
@@ -50,6 +51,10 @@ pub(crate) struct Place {
     pub(crate) pace: Pace,
     /// Nothing more is read of its client, and its connection ends as if that were silent.
     pub(crate) is_deaf: bool,
+    /// Its connection gives its seat to a newcomer, unless something comes.
+    pub(crate) gives_way: bool,
+    /// In how many ticks in a row its connection has moved nothing.
+    pub(crate) silent: u32,
     /// It has bytes that wait for room.
     pub(crate) is_blocked: bool,
     /// A tick has passed since its line was told something.
@@ -145,12 +150,14 @@ impl Place {
     pub(crate) fn of_seat(at: usize) -> Place {
         Place {
             usage: Use::Seat(at),
-            is_queued: false,
+            wish: None,
             has_moved: true,
             is_silent: false,
             is_in_exchange: false,
             pace: Pace::new(),
             is_deaf: false,
+            gives_way: false,
+            silent: 0,
             is_blocked: false,
             has_ticked: false,
             stuck: 0,
@@ -190,6 +197,11 @@ impl Place {
     /// wait.
     pub(crate) fn is_due(&mut self) -> bool {
         self.is_silent = !self.has_moved;
+        self.silent = if self.is_silent {
+            self.silent.saturating_add(1)
+        } else {
+            0
+        };
         self.has_moved = false;
         self.has_ticked = true;
         self.is_silent || self.is_blocked
@@ -203,9 +215,20 @@ impl Place {
         if came == 0 {
             polled.let_go();
         }
-        if clocked.is_over(rest.standing) || self.is_too_slow(came, rest, clocked) {
+        let is_given = self.gives_way && came == 0 && !is_exchange(rest.standing);
+        self.gives_way = is_given;
+        if is_given || clocked.is_over(rest.standing) || self.is_too_slow(came, rest, clocked) {
             self.is_deaf = true;
             polled.stop_reading();
+        }
+    }
+
+    /// For how many ticks in a row its connection has been silent between two requests, if it could give its seat away.
+    pub(crate) fn silent_between(&self) -> u32 {
+        match self.usage {
+            Use::Seat(_) if !self.is_in_exchange && !self.is_deaf => self.silent,
+            Use::Seat(_) => 0,
+            Use::Closing(_) => 0,
         }
     }
 
@@ -221,7 +244,7 @@ impl Place {
 
     /// It is taken up. Whether a tick is to be counted.
     pub(crate) fn take_up(&mut self) -> bool {
-        self.is_queued = false;
+        self.wish = None;
         let is_silent = self.is_silent;
         self.is_silent = false;
         is_silent

@@ -7,11 +7,11 @@ use crate::draining::Left;
 use crate::lingering::Linger;
 use crate::numbers::Numbers;
 use crate::place::{Clocked, Closing, Place, PolledLine, Use, is_exchange, socket_of};
+use crate::waiting::{Waiting, Wish};
 use asgi_many::{Ready, Rest};
 use mio::event::Event;
 use slab::Slab;
 use std::alloc::{AllocError, Global};
-use std::collections::VecDeque;
 use std::time::Duration;
 
 /// How many turns in a row one connection takes before the others have theirs.
@@ -31,16 +31,18 @@ pub(crate) struct Queue {
     closing: Slab<Closing>,
     /// The tokens of seats.
     tokens: Vec<usize>,
-    waiting: VecDeque<usize>,
+    waiting: Waiting,
     /// The one that goes on at once, and how many turns in a row it has had.
     first: Option<usize>,
     turns: u32,
-    /// How many that wait are taken up before the system is asked again.
-    round: usize,
     /// For how many ticks in a row nothing of what waits for room may leave.
     patience: u32,
     /// How long a connection that has ended is kept for its peer to close it too.
     linger: Linger,
+    /// After how many silent ticks a connection between two requests gives its seat to a newcomer.
+    give_way: u32,
+    /// The one that does.
+    giving: Option<usize>,
     /// How many are in an exchange that waits.
     exchanges: u64,
     clocked: Clocked,
@@ -65,12 +67,13 @@ impl Queue {
             places: Slab::with_capacity(alloc, numbers.seats)?,
             closing: Slab::with_capacity(alloc, numbers.seats)?,
             tokens,
-            waiting: VecDeque::new(alloc),
+            waiting: Waiting::new(alloc),
             first: None,
             turns: 0,
-            round: 0,
             patience: numbers.patience,
             linger: numbers.linger,
+            give_way: numbers.give_way,
+            giving: None,
             exchanges: 0,
             clocked: Clocked {
                 now: 0,
@@ -132,16 +135,33 @@ impl Queue {
         let Some(place) = self.places.get_mut(token) else {
             return;
         };
-        if place.is_queued {
+        if place.wish == Some(Wish::Goes) {
             return;
         }
         // If memory is refused, it is taken up at a tick.
-        place.is_queued = self.waiting.push_back(token).is_ok();
+        if self.waiting.push(token, Wish::Goes) {
+            place.wish = Some(Wish::Goes);
+        }
+    }
+
+    /// The socket with this token waits to be looked at, unless it waits already.
+    fn look_at(&mut self, token: usize) {
+        let Some(place) = self.places.get_mut(token) else {
+            return;
+        };
+        if place.wish.is_none() && self.waiting.push(token, Wish::Looked) {
+            place.wish = Some(Wish::Looked);
+        }
     }
 
     /// From here on those that wait now are taken up, once each.
     pub(crate) fn begin_round(&mut self) {
-        self.round = self.waiting.len();
+        self.waiting.begin_round();
+    }
+
+    /// The connection that goes on has its next turn behind the others.
+    pub(crate) fn end_row(&mut self) {
+        self.turns = IN_A_ROW;
     }
 
     /// The seat that is taken up next, if there is one in this round.
@@ -150,24 +170,27 @@ impl Queue {
             return Some(Ready::Seat(self.seat_of(token)?));
         }
         self.turns = 0;
-        for _one in 0..self.round {
-            self.round = self.round.saturating_sub(1);
-            let token = self.waiting.pop_front()?;
-            let is_silent = self.take_up(token);
-            if let Some(at) = self.seat_of(token) {
-                return Some(named(at, is_silent));
+        for _one in 0..self.waiting.left() {
+            let (token, wish) = self.waiting.next()?;
+            if let Some(ready) = self.take_up(token, wish) {
+                return Some(ready);
             }
-            self.go_on_closing(token);
         }
         None
     }
 
-    /// The socket with this token does not wait any more. Whether a tick is to be counted.
-    fn take_up(&mut self, token: usize) -> bool {
-        match self.places.get_mut(token) {
-            Some(place) => place.take_up(),
-            None => false,
+    /// Takes up the socket with this token, unless it was taken up for another wish or is gone. The seat that it has.
+    fn take_up(&mut self, token: usize, wish: Wish) -> Option<Ready> {
+        let place = self.places.get_mut(token)?;
+        if place.wish != Some(wish) {
+            return None;
         }
+        let is_silent = place.take_up();
+        if let Some(at) = self.seat_of(token) {
+            return Some(named(at, is_silent));
+        }
+        self.go_on_closing(token);
+        None
     }
 
     /// The seat whose socket has this token.
@@ -250,7 +273,7 @@ impl Queue {
                 None => false,
             };
             if is_in_exchange {
-                self.push(token);
+                self.look_at(token);
             }
         }
     }
@@ -290,6 +313,7 @@ impl Queue {
             return self.remove(token);
         };
         place.usage = Use::Closing(key);
+        place.gives_way = false;
         place.is_blocked = true;
         self.go_on_closing(token);
     }
@@ -333,7 +357,7 @@ impl Queue {
             if self.is_late(token) {
                 self.remove(token);
             } else if self.is_due(token) {
-                self.push(token);
+                self.look_at(token);
             }
         }
     }
@@ -363,7 +387,7 @@ impl Queue {
         }
         self.clocked.leaving = Some(self.clocked.now);
         for token in 0..self.places.capacity() {
-            self.push(token);
+            self.look_at(token);
         }
     }
 
@@ -376,6 +400,57 @@ impl Queue {
                 }
             }
         }
+    }
+
+    /// Whether each seat is taken.
+    pub(crate) fn is_full(&self) -> bool {
+        self.places.len().saturating_sub(self.closing.len()) >= self.tokens.len()
+    }
+
+    /// The connection that has been silent longest between two requests is to give its seat away, unless one does already. Whether one does.
+    pub(crate) fn give_one_away(&mut self) -> bool {
+        if self.is_giving() {
+            return true;
+        }
+        self.giving = self.longest_silent();
+        let Some(token) = self.giving else {
+            return false;
+        };
+        if let Some(place) = self.places.get_mut(token) {
+            place.gives_way = true;
+        }
+        self.push(token);
+        true
+    }
+
+    /// Whether a connection gives its seat away.
+    fn is_giving(&self) -> bool {
+        let Some(token) = self.giving else {
+            return false;
+        };
+        match self.places.get(token) {
+            Some(place) => place.gives_way,
+            None => false,
+        }
+    }
+
+    /// The token of the connection that has been silent longest between two requests, if that was for long enough.
+    fn longest_silent(&self) -> Option<usize> {
+        if self.give_way == 0 {
+            return None;
+        }
+        let (mut most, mut found) = (self.give_way, None);
+        for token in 0..self.places.capacity() {
+            let silent = match self.places.get(token) {
+                Some(place) => place.silent_between(),
+                None => 0,
+            };
+            if silent >= most {
+                most = silent;
+                found = Some(token);
+            }
+        }
+        found
     }
 
     /// Whether no line is to be closed any more, and nobody sits.

@@ -42,6 +42,12 @@ const NEWCOMERS: u32 = 16;
 /// The shortest tick, in milliseconds.
 const SHORTEST_TICK: u64 = 1;
 
+/// For how many milliseconds after a wait a connection takes turns in a row. From then on each has one at a time.
+const LONG_ROW: u64 = 1;
+
+/// After how many milliseconds the system is asked again, though others wait for their turns.
+const LONG_ROUND: u64 = 10;
+
 /// How many waits its end may take at the most.
 const LAST_WAITS: u32 = 1_000_000;
 
@@ -75,6 +81,10 @@ pub struct SocketReactor<'a, R: Clock> {
     flag: Option<&'a AtomicBool>,
     // One may have arrived.
     arrived: bool,
+    // The system may have one that was not accepted yet.
+    has_newcomers: bool,
+    // A seat may be given away: since the last tick it was not found that none can be.
+    may_give_away: bool,
     // How many in a row were lost.
     lost: u32,
     // How many were accepted since the last wait.
@@ -87,6 +97,8 @@ pub struct SocketReactor<'a, R: Clock> {
     last_beat: Option<Instant>,
     // What time it was after the last wait. The clock is asked once for each.
     time: Option<Instant>,
+    // What time it was after the last turn in which something moved, since the last wait.
+    seen: Option<Instant>,
     why: Option<io::Error>,
     told: History<Next<PolledLine>>,
     moves: History<Move>,
@@ -152,6 +164,8 @@ impl<'a, R: Net + Clock> SocketReactor<'a, R> {
             quota,
             flag,
             arrived: true,
+            has_newcomers: false,
+            may_give_away: false,
             lost: 0,
             accepted: 0,
             is_short: false,
@@ -159,6 +173,7 @@ impl<'a, R: Net + Clock> SocketReactor<'a, R> {
             last_tick: time_of(rt),
             last_beat: time_of(rt),
             time: time_of(rt),
+            seen: None,
             why: None,
             told: History::new(),
             moves: History::new(),
@@ -356,6 +371,7 @@ impl<R: Clock> SocketReactor<'_, R> {
             Fault::Lost => self.passes(),
             Fault::NoneNow => {
                 self.lost = 0;
+                self.has_newcomers = false;
                 Next::NoneNow
             }
             Fault::Short => {
@@ -452,16 +468,37 @@ impl<R: Clock> SocketReactor<'_, R> {
         // After a failed wait, by a signal for example, no event is left.
         let _asked = self.poll.poll(&mut self.events, Some(patience));
         self.time = time_of(self.clock);
+        self.seen = None;
         self.arrived = self.arrived || self.has_many_newcomers();
         self.accepted = 0;
+        self.hear_events();
+        self.hear_flag();
+        self.pass_time();
+        if self.lacks_a_seat() {
+            self.may_give_away = self.queue.give_one_away();
+        }
+        self.queue.begin_round();
+    }
+
+    /// What the system told of the sockets is noted.
+    fn hear_events(&mut self)
+        ensures { (self.new.told ≡ self.old.told) × (self.new.moves ≡ self.old.moves) × (self.new.left ≡ self.old.left) × (self.new.why ≡ self.old.why) }
+    {
         for event in self.events.iter() {
             let Token(token) = event.token();
             if token == ARRIVALS {
                 self.arrived = true;
+                self.has_newcomers = true;
             } else {
                 self.queue.note(token, event);
             }
         }
+    }
+
+    /// If the flag is set those that sit are to end, and once no connection will be accepted any more the port is closed.
+    fn hear_flag(&mut self)
+        ensures { (self.new.told ≡ self.old.told) × (self.new.moves ≡ self.old.moves) × (self.new.left ≡ self.old.left) × (self.new.why ≡ self.old.why) }
+    {
         if is_set(self.flag) {
             self.arrived = true;
             self.queue.leave();
@@ -469,13 +506,34 @@ impl<R: Clock> SocketReactor<'_, R> {
         if self.is_over() {
             self.stop_listening();
         }
+    }
+
+    /// What is due by the clock is taken up.
+    fn pass_time(&mut self)
+        ensures { (self.new.told ≡ self.old.told) × (self.new.moves ≡ self.old.moves) × (self.new.left ≡ self.old.left) × (self.new.why ≡ self.old.why) }
+    {
         if self.is_beat() {
             self.begin_beat();
         }
         if self.rest_of(self.last_tick, self.tick) == Duration::from_millis(0) {
             self.begin_tick();
         }
-        self.queue.begin_round();
+    }
+
+    /// Whether so much time has passed since the last wait, as of the last turn in which something moved.
+    fn has_gone_on_for(&self, milliseconds: u64) -> bool {
+        let Some(since) = self.time else {
+            return false;
+        };
+        let Some(now) = self.seen else {
+            return false;
+        };
+        now.duration_since(since) >= Duration::from_millis(milliseconds)
+    }
+
+    /// Whether a newcomer waits for a seat or a descriptor, and one might be given away.
+    fn lacks_a_seat(&self) -> bool {
+        self.may_give_away && (self.is_short || (self.has_newcomers && self.queue.is_full()))
     }
 
     /// The exchanges that wait are looked at.
@@ -492,6 +550,7 @@ impl<R: Clock> SocketReactor<'_, R> {
     {
         self.last_tick = self.time;
         self.arrived = true;
+        self.may_give_away = true;
         self.queue.tick();
     }
 
@@ -515,6 +574,10 @@ impl<R: Clock> SocketReactor<'_, R> {
         if self.arrived {
             self.arrived = false;
             return Some(Ready::Arrivals);
+        }
+        // Newcomers, and those that the system tells of, do not wait for a long round to end.
+        if self.has_gone_on_for(LONG_ROUND) {
+            return None;
         }
         if let Some(ready) = self.queue.next() {
             return Some(ready);
@@ -594,6 +657,10 @@ impl<R: Clock> Reactor for SocketReactor<'_, R> {
     }
 
     fn again(&mut self, at: usize) {
+        self.seen = time_of(self.clock);
+        if self.has_gone_on_for(LONG_ROW) {
+            self.queue.end_row();
+        }
         self.queue.again(at);
     }
 

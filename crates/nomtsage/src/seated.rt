@@ -37,6 +37,9 @@ const SLOW: u32 = 60;
 /// For how many seconds exchanges and sessions go on once the server is to end.
 const LEAVE: u32 = 30;
 
+/// After how many seconds a connection that is silent between two requests gives its seat to a newcomer, if all seats are taken.
+const GIVE_WAY: u32 = 5;
+
 /// For how many seconds a client that goes on sending is read after its answer.
 const LINGER: u32 = 30;
 
@@ -119,6 +122,7 @@ pub(crate) fn numbers_of(seats: usize, count: u64) -> Numbers
         least: LEAST,
         slow: SLOW,
         leave: LEAVE,
+        give_way: GIVE_WAY,
         linger: Linger {
             ticks: LINGER,
             silent: LINGER_SILENT,

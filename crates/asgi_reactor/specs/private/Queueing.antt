@@ -1,11 +1,12 @@
 -- Who is to be taken up again.
-use Rattle.std.specs.Prelude.{◌≡◌, ◌⊎◌, ◌≤◌, ℕ, [], ◌∷◌, ◌++◌, Some, IsTrue}
-use Rattle.std.specs.VecDeque.{deque_items, deque_len, deque_capacity}
+use Rattle.std.specs.Prelude.{◌≡◌, ◌⊎◌, ◌≤◌, ℕ, [], ◌∷◌, ◌++◌, Some}
+use Rattle.std.specs.VecDeque.{deque_len, deque_capacity}
 use Rattle.slab.specs.Slab.{get}
 use Rattle.asgi_reactor.specs.declared.place.Place.{Place}
 use Rattle.asgi_reactor.specs.declared.queue.Queue.{Queue}
+use Rattle.asgi_reactor.specs.declared.waiting.Wish.TheVariants.{Goes}
 
 -- The socket with this token, if there is one, waits behind all others if it did not wait already, unless memory for that was refused.
 abbrev pub Waits : Queue → Queue → ℕ → Type 0
 Waits old new token = (place : Place) → get old.places token ≡ Some place
-    → IsTrue place.is_queued ⊎ (deque_items new.waiting ≡ deque_items old.waiting ++ token ∷ []) ⊎ (deque_capacity old.waiting ≤ deque_len old.waiting)
+    → (place.wish ≡ Some Goes) ⊎ (new.waiting.going.items ≡ old.waiting.going.items ++ token ∷ []) ⊎ (deque_capacity old.waiting.going ≤ deque_len old.waiting.going)
