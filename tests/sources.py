@@ -45,6 +45,7 @@ CLAUSE = re.compile(r"\b(ensures|requires|ghost|measure)\b")
 # Edits of tests/faults, each with a word of what is wrong with it.
 UNFIT = [
     ("fails: test_a\nfile: tests/run\nold: #!/\nnew: #\n", None),
+    ("fails: clients.py test_a\nfile: tests/run\nold: #!/\nnew: #\n", None),
     ("fails: test_a\nfile: tests/run\nold: what stands nowhere in it\nnew: x\n", "0 times"),
     ("fails: test_a\nfile: tests/none\nold: x\nnew: y\n", "tests/none: "),
     ("file: tests/run\nold: x\nnew: y\n", "form"),
