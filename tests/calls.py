@@ -9,7 +9,6 @@ server of four connections: one that is served, one whose calls fail, and two mo
 import contextlib
 import errno
 import os
-import socket
 import subprocess
 import sys
 import tempfile

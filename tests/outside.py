@@ -23,6 +23,7 @@ SCRIPTS = [
     *(["tests/clients.py", PROGRAM, it] for it in EACH),
     *(["tests/sessions.py", PROGRAM, it] for it in ["OnOnce", *EACH]),
     ["tests/faults.py", PROGRAM],
+    *(["tests/served.py", PROGRAM, it] for it in EACH),
     ["tests/seats.py"],
     ["tests/reactor.py"],
     ["tests/turns.py"],

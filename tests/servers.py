@@ -28,7 +28,6 @@ import tempfile
 import threading
 import time
 import unittest
-from concurrent.futures import ThreadPoolExecutor
 
 PROGRAM = ""
 TOP = os.path.dirname(os.path.dirname(os.path.realpath(__file__)))
@@ -485,14 +484,6 @@ class Program(unittest.TestCase):
                 self.assertTrue(read_all(line).endswith(GREETING))
             self.assertEqual(server.ended(), (["1 1 finished"], "", 0))
 
-    def test_the_state_of_the_startup_is_in_each_scope(self):
-        with Server("life", 2) as server:
-            for _ in range(2):
-                with server.connect() as line:
-                    line.sendall(b"GET / HTTP/1.0\r\n\r\n")
-                    self.assertTrue(read_all(line).endswith(b"\r\n\r\nn=7\n"))
-            self.assertEqual(server.ended(), (["1 1 finished", "2 1 finished"], "", 0))
-
     def test_a_start_that_fails_takes_no_connection(self):
         with Server("nostart") as server:
             self.assertEqual(server.ended(), ([], "startup failed: no table\n", 3))
@@ -524,41 +515,6 @@ class Program(unittest.TestCase):
                 _, errors = ran.communicate(timeout=SECONDS)
                 self.assertEqual((errors, ran.returncode), (b"device fault\n", 5))
 
-    def test_each_connection_has_its_report(self):
-        rows = [
-            (GET, "1 finished"),
-            (GET + GET, "2 finished"),
-            (b"", "0 finished"),
-            (b"GET / HTTP/1.1\r\n\r\n", "0 refused 400"),
-            (b"GE", "0 input-broke"),
-            (b"POST / HTTP/1.1\r\nHost: a\r\nContent-Length: 9\r\n\r\nabc", "1 input-broke"),
-        ]
-        with Server("echo", len(rows)) as server:
-            for given, _ in rows:
-                with server.connect() as line:
-                    line.sendall(given)
-                    line.shutdown(socket.SHUT_WR)
-                    read_all(line)
-            wanted = [f"{number} {report}" for number, (_, report) in enumerate(rows, 1)]
-            self.assertEqual(server.ended(), (wanted, "", 0))
-
-    def test_a_client_that_goes_away_is_reported_and_the_next_is_served(self):
-        with Server("echo", 2) as server:
-            with server.connect() as line:
-                # It takes nothing of its echo, until the server can write no more, and is then gone at once.
-                line.setsockopt(socket.SOL_SOCKET, socket.SO_LINGER, struct.pack("ii", 1, 0))
-                line.sendall(b"POST / HTTP/1.1\r\nHost: a\r\nContent-Length: %d\r\n\r\n" % len(MEBIBYTE))
-                line.settimeout(1)
-                with contextlib.suppress(TimeoutError):
-                    line.sendall(MEBIBYTE[:-1])
-            with server.connect() as line:
-                line.sendall(GET)
-                line.shutdown(socket.SHUT_WR)
-                self.assertTrue(read_all(line).endswith(b"0\r\n\r\n"))
-            lines, errors, status = server.ended()
-            self.assertRegex(lines[0], r"^1 1 (write-failed \d+|input-broke)$")
-            self.assertEqual((lines[1:], errors, status), (["2 1 finished"], "", 0))
-
     def test_a_client_that_aborts_before_it_is_accepted_is_reported_and_the_next_is_served(self):
         with Server("hello", 3, workers=1) as server:
             with server.connect() as first:
@@ -577,144 +533,20 @@ class Program(unittest.TestCase):
                 self.assertTrue(read_all(third).endswith(GREETING))
             self.assertEqual(server.ended(), (["1 1 finished", "2 0 input-broke", "3 1 finished"], "", 0))
 
-    def test_a_refused_client_gets_its_text_though_it_sends_on(self):
-        with Server("echo") as server:
-            with server.connect() as line:
-                line.sendall(b"POST / HTTP/1.1\r\nHost: a\r\nContent-Length: %d\r\n\r\n" % (1 << 21))
-                with contextlib.suppress(OSError):
-                    line.sendall(MEBIBYTE[: 1 << 19])
-                text = read_all(line)
-            self.assertTrue(text.startswith(b"HTTP/1.1 413 Content Too Large\r\n"), text[:80])
-            self.assertEqual(server.ended(), (["1 0 refused 413"], "", 0))
+def talk(test, url):
+    """The code with which a session of all kinds of messages ends."""
+    import websockets
 
+    async def messages():
+        async with websockets.connect(url, ping_interval=None) as session:
+            for message in ("", "Hello", "\u20ac" * 300, b"\x00\xff" * 40_000):
+                await session.send(message)
+                test.assertEqual(await session.recv(), message)
+            await session.ping()
+            await session.close(3001, "done")
+            return session.close_code
 
-@needs("curl")
-class Curl(unittest.TestCase):
-    def curl(self, *words):
-        status, output, errors = run(["curl", "-sS", "-i", "--max-time", "30", *words])
-        self.assertEqual((status, errors), (0, ""))
-        return output
-
-    def check_body(self, output, body):
-        head, _, found = output.rpartition(b"\r\n\r\n") if body == b"" else output.partition(b"\r\n\r\n")
-        self.assertTrue(head.startswith(b"HTTP/1.1 200 OK"), head)
-        self.assertEqual(found, body)
-
-    def test_http_1_1(self):
-        with Server("hello") as server:
-            self.check_body(self.curl(server.url), b"hello\n")
-            self.assertEqual(server.ended(), (["1 1 finished"], "", 0))
-
-    def test_http_1_0(self):
-        with Server("hello") as server:
-            output = self.curl("--http1.0", server.url)
-            self.check_body(output, b"hello\n")
-            self.assertIn(b"\r\nconnection: close\r\n", output)
-            self.assertEqual(server.ended(), (["1 1 finished"], "", 0))
-
-    def test_three_requests_of_one_connection(self):
-        with Server("hello") as server:
-            output = self.curl(server.url, server.url, server.url)
-            self.assertEqual(output.count(b"\r\n\r\nhello\n"), 3)
-            self.assertEqual(server.ended(), (["1 3 finished"], "", 0))
-
-    def test_a_mebibyte_by_length_and_in_chunks(self):
-        with tempfile.NamedTemporaryFile() as file:
-            file.write(MEBIBYTE)
-            file.flush()
-            for fields in (["-H", "Expect:"], ["-H", "Expect:", "-H", "Transfer-Encoding: chunked"]):
-                with self.subTest(fields=fields), Server("echo") as server:
-                    output = self.curl(*fields, "--data-binary", f"@{file.name}", server.url)
-                    self.check_body(output, MEBIBYTE)
-                    self.assertEqual(server.ended(), (["1 1 finished"], "", 0))
-
-    def test_a_client_that_expects_to_be_told_to_continue(self):
-        with Server("echo") as server:
-            output = self.curl("-H", "Expect: 100-continue", "--expect100-timeout", "20", "--data-binary", "abc", server.url)
-            first, _, rest = output.partition(b"\r\n\r\n")
-            self.assertEqual(first, b"HTTP/1.1 100 Continue")
-            self.check_body(rest, b"abc")
-            self.assertEqual(server.ended(), (["1 1 finished"], "", 0))
-
-    def test_head(self):
-        with Server("hello") as server:
-            self.check_body(self.curl("-I", server.url), b"")
-            self.assertEqual(server.ended(), (["1 1 finished"], "", 0))
-
-    def test_mounts(self):
-        with Server("mounts") as server:
-            urls = [f"{server.url}{path}" for path in ("a/bc", "a/b", "a/b/c", "ab", "x")]
-            output = self.curl(*urls)
-            bodies = re.findall(rb"\r\n\r\n(\S*)\n", output)
-            self.assertEqual(bodies, [b"/a", b"/a/b", b"/a/b"])
-            self.assertEqual(output.count(b"HTTP/1.1 404 Not Found\r\n"), 2)
-            self.assertEqual(server.ended(), (["1 5 finished"], "", 0))
-
-
-class Python(unittest.TestCase):
-    def test_http_client(self):
-        with Server("echo") as server:
-            line = http.client.HTTPConnection("127.0.0.1", server.port, timeout=SECONDS)
-            for body in (b"", b"abc", MEBIBYTE[:70_000]):
-                line.request("POST", "/", body)
-                answer = line.getresponse()
-                self.assertEqual((answer.status, answer.read()), (200, body))
-            line.request("POST", "/", iter([b"ab", b"cde"]), encode_chunked=True, headers={"Transfer-Encoding": "chunked"})
-            answer = line.getresponse()
-            self.assertEqual((answer.status, answer.read()), (200, b"abcde"))
-            line.request("HEAD", "/")
-            answer = line.getresponse()
-            self.assertEqual((answer.status, answer.read()), (200, b""))
-            line.close()
-            self.assertEqual(server.ended(), (["1 5 finished"], "", 0))
-
-    def talk(self, url):
-        import websockets
-
-        async def messages():
-            async with websockets.connect(url, ping_interval=None) as session:
-                for message in ("", "Hello", "\u20ac" * 300, b"\x00\xff" * 40_000):
-                    await session.send(message)
-                    self.assertEqual(await session.recv(), message)
-                await session.ping()
-                await session.close(3001, "done")
-                return session.close_code
-
-        return asyncio.run(asyncio.wait_for(messages(), SECONDS))
-
-    def test_websockets(self):
-        with Server("wsecho", 2) as server:
-            for _ in range(2):
-                self.assertEqual(self.talk(server.url.replace("http", "ws")), 3001)
-            self.assertEqual(server.ended(), (["1 1 finished", "2 1 finished"], "", 0))
-
-
-class Load(unittest.TestCase):
-    @needs("ab")
-    def test_a_thousand_requests_of_ab(self):
-        with Server("hello", 1_000) as server:
-            status, output, _ = run(["ab", "-q", "-k", "-n", "1000", "-c", "1", server.url])
-            text = output.decode()
-            self.assertEqual(status, 0)
-            self.assertRegex(text, r"Complete requests:\s+1000\n")
-            self.assertRegex(text, r"Failed requests:\s+0\n")
-            self.assertNotIn("Non-2xx", text)
-            lines, errors, status = server.ended()
-            self.assertEqual((lines, errors, status), ([f"{number} 1 finished" for number in range(1, 1_001)], "", 0))
-
-    @needs("wrk")
-    def test_a_second_of_wrk(self):
-        # Its first connection carries nothing; it ends where wrk has found the address.
-        with Server("hello", 2) as server:
-            status, output, _ = run(["wrk", "-t1", "-c1", "-d1s", server.url])
-            text = output.decode()
-            self.assertEqual(status, 0)
-            self.assertNotIn("Socket errors", text)
-            self.assertNotIn("Non-2xx", text)
-            self.assertGreater(int(re.search(r"(\d+) requests in", text)[1]), 1)
-            lines, errors, status = server.used_up(2)
-            self.assertEqual((lines[0], len(lines), errors, status), ("1 0 finished", 2, "", 0))
-            self.assertGreater(int(lines[1].split()[1]), 1)
+    return asyncio.run(asyncio.wait_for(messages(), SECONDS))
 
 
 NGINX = """
@@ -889,7 +721,7 @@ class Behind:
     def test_a_session_by_workers(self):
         with Server("wsecho", 1) as server:
             with self.before_workers(server.port) as proxy:
-                self.assertEqual(Python.talk(self, f"ws://127.0.0.1:{proxy.port}/"), 3001)
+                self.assertEqual(talk(self, f"ws://127.0.0.1:{proxy.port}/"), 3001)
             self.assertEqual(server.ended(), (["1 1 finished"], "", 0))
 
     def test_a_request_beside_a_session_by_workers(self):

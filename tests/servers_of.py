@@ -69,7 +69,7 @@ NOT_FOR = {
     ("many", "test_reports_are_told_in_order_as_soon_as_those_before_them_are_there", FOUR): IN_ORDER,
 }
 # The scripts that name their servers by this table.
-SCRIPTS = ["program", "sessions", "many", "calls", "clients"]
+SCRIPTS = ["program", "sessions", "served", "many", "calls", "clients"]
 
 Report = namedtuple("Report", "number host port requests how")
 Ended = namedtuple("Ended", "reports others status")
