@@ -449,29 +449,12 @@ class Program(unittest.TestCase):
     def test_wrong_words_give_the_usage_text(self):
         usage = b"usage: asgi_demo once APP | asgi_demo serve PORT COUNT APP [WORKERS]\n"
         port = str(free_port())
-        for words in (
-            [],
-            ["serve"],
-            ["serve", port, "1"],
-            ["serve", port, "1", "hello", "more"],
-            ["serve", port, "1", "hello", "0"],
-            ["serve", port, "1", "hello", "9"],
-            ["serve", port, "1", "hello", "-1"],
-            ["serve", port, "1", "hello", ""],
-            ["serve", port, "1", "hello", "2", "2"],
-            ["serve", "0", "1", "hello"],
-            ["serve", "65536", "1", "hello"],
-            ["serve", "080000", "1", "hello"],
-            ["serve", "+80", "1", "hello"],
-            ["serve", " 80", "1", "hello"],
-            ["serve", "", "1", "hello"],
-            ["serve", port, "0", "hello"],
-            ["serve", port, "1001", "hello"],
-            ["serve", port, "one", "hello"],
-            ["serve", port, "1", "Hello"],
-            ["serve", port, "1", ""],
-            ["server", port, "1", "hello"],
-        ):
+        rows = [[], ["serve"], ["serve", port, "1"], ["serve", port, "1", "hello", "more"], ["serve", port, "1", "hello", "0"]]
+        rows += [["serve", port, "1", "hello", "9"], ["serve", port, "1", "hello", "-1"], ["serve", port, "1", "hello", ""], ["serve", port, "1", "hello", "2", "2"], ["serve", "0", "1", "hello"]]
+        rows += [["serve", "65536", "1", "hello"], ["serve", "080000", "1", "hello"], ["serve", "+80", "1", "hello"], ["serve", " 80", "1", "hello"], ["serve", "", "1", "hello"]]
+        rows += [["serve", port, "0", "hello"], ["serve", port, "1001", "hello"], ["serve", port, "one", "hello"], ["serve", port, "1", "Hello"], ["serve", port, "1", ""]]
+        rows += [["server", port, "1", "hello"]]
+        for words in rows:
             with self.subTest(words=words):
                 done = subprocess.run([PROGRAM, *words], capture_output=True, timeout=SECONDS, check=False)
                 self.assertEqual((done.returncode, done.stdout, done.stderr), (2, b"", usage))
