@@ -2,4 +2,5 @@ pub mod HearingLemmas
 pub mod ParamLemmas
 pub mod SendingLemmas
 pub mod TaskLemmas
+pub mod LocationLemmas
 pub mod MakingLemmas

@@ -1,4 +1,5 @@
 pub mod Handling
+pub mod Locations
 pub mod Making
 pub mod Params
 pub mod Replies

@@ -6,6 +6,7 @@ mod asking;
 mod handled;
 mod handler;
 mod handling;
+mod location;
 mod params;
 mod receiving;
 mod reply;

@@ -9,8 +9,10 @@ ghost use Rattle.serde_json.specs.View.{view};
 ghost use Rattle.serde_json.specs.Written.{compact_text, has_float};
 ghost use Rattle.asgi_types.specs.Fields.{field_of};
 ghost use Rattle.asgi_protocol.specs.Rules.{has_no_content as has_no_content_at};
+ghost use Rattle.asgi_handlers.specs.Locations.{uri_reference};
 ghost use Rattle.asgi_handlers.specs.Making.{bare_reply, redirect_reply, reply_of, status_reply};
 
+use crate::location::{is_field_value, uri_of};
 use asgi_apps::AppFault;
 use asgi_types::{HeaderError, Headers, Octets};
 use itoa::Buffer;
@@ -131,22 +133,21 @@ impl Reply {
         })
     }
 
-    /// 303, with the place to get next (RFC 9110, sections 10.2.2 and 15.4.4). `Failed` if the
-    /// location has a control byte, `NoMemory` if memory is refused.
+    /// 303, with the place to get next (RFC 9110, sections 10.2.2 and 15.4.4): a text in which what
+    /// stands in no URI is percent-encoded, such as a blank or a letter beyond ASCII; a `%` stays as
+    /// it is. `Failed` if the location has a control byte, `NoMemory` if memory is refused.
     pub fn redirect(alloc: Global, location: &str) -> Result<Self, AppFault>
-        ensures made { IfOk result (λ reply. reply ≡ redirect_reply location.now) }
+        ensures made { IfOk result (λ reply. reply ≡ redirect_reply (uri_reference location.now)) }
         ensures failed { IsErrOf result AppFault.Failed ↔ (¬ (IsFieldValue location.now)) }
     {
-        let mut headers = Headers::new(alloc);
-        if let Err(e) = push(&mut headers, LOCATION, location.as_bytes()) {
-            return Err(e);
+        let bytes = location.as_bytes();
+        if !is_field_value(bytes) {
+            return Err(AppFault::Failed);
         }
-        push_length(&mut headers, 0)?;
-        Ok(Reply {
-            status: SEE_OTHER,
-            headers,
-            body: Octets::new(Vec::new(alloc)),
-        })
+        match uri_of(alloc, bytes) {
+            Ok(uri) => redirected(alloc, uri.as_slice()),
+            Err(e) => Err(AppFault::NoMemory(e)),
+        }
     }
 
     /// The reply with one more field, after the others. `Failed` if the name is no token or the
@@ -185,6 +186,24 @@ fn bare(alloc: Global, status: u16) -> Reply
         headers: Headers::new(alloc),
         body: Octets::new(Vec::new(alloc)),
     }
+}
+
+/// A redirect to this place. Only memory can be refused.
+fn redirected(alloc: Global, uri: &[u8]) -> Result<Reply, AppFault>
+    requires { IsFieldValue uri.now }
+    ensures made { IfOk result (λ reply. reply ≡ redirect_reply uri.now) }
+    ensures memory { ¬ (IsErrOf result AppFault.Failed) }
+{
+    let mut headers = Headers::new(alloc);
+    if let Err(e) = push(&mut headers, LOCATION, uri) {
+        return Err(e);
+    }
+    push_length(&mut headers, 0)?;
+    Ok(Reply {
+        status: SEE_OTHER,
+        headers,
+        body: Octets::new(Vec::new(alloc)),
+    })
 }
 
 /// Adds a field. `Failed` if the name or the value is refused, `NoMemory` if memory is.

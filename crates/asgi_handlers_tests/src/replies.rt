@@ -26,6 +26,8 @@ impl Handler for Makes {
             ["status"] => Reply::status(alloc, 418),
             ["unchanged"] => Reply::status(alloc, 304),
             ["redirect"] => Reply::redirect(alloc, "/items/7"),
+            ["words"] => Reply::redirect(alloc, "/a b\té?q=1&r=%20#x"),
+            ["marks"] => Reply::redirect(alloc, "http://[::1]:80/\"<>\\^`{|}-._~!$'()*+,;@"),
             ["field"] => Reply::status(alloc, 405)?.with_field("Allow", "GET"),
             ["dropped"] => Reply::new(alloc, 204, "a/b", text(request, "abc")?),
             _ => turned_away(request),
@@ -81,6 +83,17 @@ const MADE: &[Row] = &[
         Get("/redirect"),
         &[Last("")],
         "start 303 location=/items/7 content-length=0|last |returned",
+    ),
+    // RFC 3986, section 2.1: what stands in no URI is encoded, and what was encoded stays (2.4).
+    (
+        Get("/words"),
+        &[Last("")],
+        "start 303 location=/a%20b%09%C3%A9?q=1&r=%20#x content-length=0|last |returned",
+    ),
+    (
+        Get("/marks"),
+        &[Last("")],
+        "start 303 location=http://[::1]:80/%22%3C%3E%5C%5E%60%7B%7C%7D-._~!$'()*+,;@ content-length=0|last |returned",
     ),
     (
         Get("/field"),

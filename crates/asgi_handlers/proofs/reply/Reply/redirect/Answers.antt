@@ -1,8 +1,6 @@
-use Rattle.asgi_handlers.proofs.MakingLemmas.{location_is_a_name}
+use Rattle.std.proofs.Common.{◌∙◌}
+use Rattle.asgi_handlers.proofs.LocationLemmas.{is_a_value}
 use Rattle.asgi_handlers.proofs.reply.Reply.redirect.Goals as goal
 
-pub returns-in-Err-clause-failed : goal.returns-in-Err-clause-failed
-returns-in-Err-clause-failed c = (
-  λ failed value. c.push.ensures.failed.0 (cc (c.in-Err.is, failed)) (location_is_a_name, rw c.as_bytes.ensures.value value),
-  λ refused. let was = c.push.ensures.failed.1 (λ both. refused (rw c.as_bytes.ensures.value at both.1)) in cc (c.in-Err.is, was),
-)
+pub redirected-requires : goal.redirected-requires
+redirected-requires c = is_a_value _ c.as_bytes-bytes.result.now (c.as_slice.ensures.value ∙ c.in-Ok.ensures.uri)
