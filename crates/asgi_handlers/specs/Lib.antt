@@ -1,4 +1,6 @@
+pub mod Dating
 pub mod Handling
+pub mod Limiting
 pub mod Locations
 pub mod Making
 pub mod Params

@@ -15,19 +15,14 @@ use asgi_types::{HttpScope, Scope};
 use futures::task::{Context, Poll};
 use std::alloc::{AllocError, Global};
 
-/// As many bytes as `Limits::usual` lets a body have.
-pub(crate) const USUAL: usize = 1_048_576;
-
 /// The application of a handler. It receives each request whole, calls the handler once, and sends
-/// its reply: a start, and one body. It refuses each session, and in a lifespan scope its call
-/// fails, as that of `NotFound` does.
+/// its reply: a start, and one body. How long a body may be is the server's to say
+/// (`Limits::max_body`); a handler with a smaller limit is a `BodyLimit`. It refuses each session,
+/// and in a lifespan scope its call fails, as that of `NotFound` does.
 #[derive(Clone, Copy, Debug)]
 pub struct Handled<H> {
     /// What gives the replies.
     pub handler: H,
-    /// The most bytes of a body. The task of a request with a longer one faults. A server limits
-    /// bodies too, and its answer to a longer one is 413 (`Limits::max_body`).
-    pub max_body: usize,
 }
 
 /// The task of the application of a handler.
@@ -40,15 +35,11 @@ pub enum HandledTask<H> {
 }
 
 impl<H> Handled<H> {
-    /// The application of this handler, with bodies of at most 1,048,576 bytes.
+    /// The application of this handler.
     pub fn new(handler: H) -> Self
-        ensures handler { result.handler ≡ handler }
-        ensures limit { result.max_body ≡ 1048576 }
+        ensures { result.handler ≡ handler }
     {
-        Handled {
-            handler,
-            max_body: USUAL,
-        }
+        Handled { handler }
     }
 }
 
@@ -95,12 +86,7 @@ impl<H: Copy> Handled<H> {
         ensures memory { ¬ (IsErrOf result AppFault.Failed) }
     {
         match boxed(alloc, scope) {
-            Ok(scope) => Ok(HandledTask::Handles(Handling::new(
-                alloc,
-                self.handler,
-                scope,
-                self.max_body,
-            ))),
+            Ok(scope) => Ok(HandledTask::Handles(Handling::new(alloc, self.handler, scope))),
             Err(e) => Err(AppFault::NoMemory(e)),
         }
     }

@@ -1,5 +1,5 @@
 //! The task of one request: it is received whole, the handler is called, and its reply is sent.
-ghost use Rattle.std.specs.Prelude.{◌≡◌, ◌≤◌, [], ◌∷◌, ◌++◌, None, OnOk, OnErr, IfOk, vec_len};
+ghost use Rattle.std.specs.Prelude.{◌≡◌, [], ◌∷◌, ◌++◌, None, OnOk, OnErr, IfOk};
 ghost use Rattle.futures.specs.Poll.{OnPending};
 ghost use Rattle.futures.specs.Task.{IsArmed, Keeps};
 ghost use Rattle.asgi_apps.specs.Ends.{GoesOn, IsWithin, end_of};
@@ -26,8 +26,6 @@ pub struct Asked<H> {
     handler: H,
     /// In a place of its own, so that a task is small where it is moved.
     scope: Box<HttpScope>,
-    /// The most bytes of the body.
-    max_body: usize,
 }
 
 /// The task of one request.
@@ -51,13 +49,13 @@ pub enum Heard {
     Gone,
     /// The whole request was received, and the handler has given this reply.
     Whole(Reply),
-    /// The handler has failed, the body is too long, or memory was refused.
+    /// The handler has failed, or memory was refused.
     Failed(AppFault),
 }
 
 impl<H> Handling<H> {
     /// Nothing of the request was received. Takes no memory.
-    pub fn new(alloc: Global, handler: H, scope: Box<HttpScope>, max_body: usize) -> Self
+    pub fn new(alloc: Global, handler: H, scope: Box<HttpScope>) -> Self
         ensures asked { (result.asked.handler ≡ handler) × (result.asked.scope ≡ scope) }
         ensures body { result.body.items ≡ [] }
         ensures given { result.given.items ≡ [] }
@@ -68,7 +66,6 @@ impl<H> Handling<H> {
                 alloc,
                 handler,
                 scope,
-                max_body,
             },
             body: Vec::new(alloc),
             given: History::new(),
@@ -106,7 +103,7 @@ impl<H: Handler> Asked<H> {
     ) -> Heard
         ensures { Hearing (H.replies self.now.handler self.now.scope.value) (Incoming.HttpRequest part more_body) body.old.items body.new.items given.old.items given.new.items result }
     {
-        let added = add(body, part.bytes(), self.max_body);
+        let added = add(body, part.bytes());
         self.after_part(added, body.as_slice(), given, more_body)
     }
 
@@ -161,18 +158,10 @@ impl<H: Handler> Asked<H> {
     }
 }
 
-/// Adds a part to the body. `Failed` if it then has more than `max_body` bytes, `NoMemory` if memory
-/// is refused.
-fn add(body: &mut Vec<u8>, part: &[u8], max_body: usize) -> Result<(), AppFault>
-    ensures ok { OnOk result (body.new.items ≡ body.old.items ++ part.now) }
-    ensures within { OnOk result (vec_len body.new ≤ max_body) }
+/// Adds a part to the body. `NoMemory` if memory is refused.
+fn add(body: &mut Vec<u8>, part: &[u8]) -> Result<(), AppFault>
+    ensures { OnOk result (body.new.items ≡ body.old.items ++ part.now) }
 {
-    let Some(room) = max_body.checked_sub(part.len()) else {
-        return Err(AppFault::Failed);
-    };
-    if room < body.len() {
-        return Err(AppFault::Failed);
-    }
     body.extend_from_slice(part)?;
     Ok(())
 }

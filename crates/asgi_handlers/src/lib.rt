@@ -3,10 +3,13 @@
 #![tactic(auto)]
 
 mod asking;
+mod body_limit;
+mod dated;
 mod handled;
 mod handler;
 mod handling;
 mod location;
+mod log_faults;
 mod params;
 mod receiving;
 mod reply;
@@ -16,9 +19,12 @@ mod sending;
 mod shared;
 
 pub use asking::ask;
+pub use body_limit::BodyLimit;
+pub use dated::Dated;
 pub use handled::{Handled, HandledTask};
 pub use handler::Handler;
 pub use handling::Handling;
+pub use log_faults::{LogFaults, TryHandled, TryHandler};
 pub use reply::Reply;
 pub use request::Request;
 pub use shared::{Held, Shared};

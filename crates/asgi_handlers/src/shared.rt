@@ -5,7 +5,7 @@ ghost use Rattle.asgi_types.specs.declared.scope.Kind.TheVariants as kind;
 ghost use Rattle.asgi_apps.specs.Scopes.{kind_of};
 ghost use Rattle.asgi_handlers.specs.Handling.{Begins};
 
-use crate::handled::{HandledTask, USUAL, boxed, deny};
+use crate::handled::{HandledTask, boxed, deny};
 use crate::handler::Handler;
 use crate::handling::Handling;
 use crate::reply::Reply;
@@ -66,20 +66,15 @@ impl<H: Handler> Handler for Held<H> {
 #[derive(Drop)]
 pub struct Shared<H> {
     held: Held<H>,
-    /// The most bytes of a body.
-    pub max_body: usize,
 }
 
 impl<H: Drop> Shared<H> {
-    /// The application of this handler, with bodies of at most 1,048,576 bytes. `AllocError` if memory
-    /// is refused.
+    /// The application of this handler. `AllocError` if memory is refused.
     pub fn new(alloc: Global, handler: H) -> Result<Self, AllocError>
-        ensures handler { IfOk result (λ shared. shared.held ≡ handler) }
-        ensures limit { IfOk result (λ shared. shared.max_body ≡ 1048576) }
+        ensures { IfOk result (λ shared. shared.held ≡ handler) }
     {
         Ok(Shared {
             held: Held::new(alloc, handler)?,
-            max_body: USUAL,
         })
     }
 }
@@ -127,12 +122,7 @@ impl<H> Shared<H> {
         ensures memory { ¬ (IsErrOf result AppFault.Failed) }
     {
         match self.held_with(alloc, scope) {
-            Ok((held, scope)) => Ok(HandledTask::Handles(Handling::new(
-                alloc,
-                held,
-                scope,
-                self.max_body,
-            ))),
+            Ok((held, scope)) => Ok(HandledTask::Handles(Handling::new(alloc, held, scope))),
             Err(e) => Err(AppFault::NoMemory(e)),
         }
     }

@@ -24,6 +24,8 @@ use std::test::Fail;
 pub enum Offered {
     Nothing,
     Part(&'static str),
+    /// A part of so many bytes.
+    Long(usize),
     Last(&'static str),
     Disconnect,
     Connect,
@@ -159,6 +161,15 @@ fn octets(alloc: Global, text: &str) -> Octets {
     }
 }
 
+/// So many zeros.
+fn zeros(alloc: Global, length: usize) -> Octets {
+    let mut made = Vec::new(alloc);
+    if made.resize(length, 0).is_err() {
+        let _again = made.resize(length, 0);
+    }
+    Octets::new(made)
+}
+
 /// What `says` makes of a value. The value is of any type, so the proof sees no field of it.
 fn of<T: Drop, S, F: FnOnce(&T) -> S>(value: T, says: F) -> S
     requires { F.IsAlwaysCallable says }
@@ -254,6 +265,7 @@ fn event_of(alloc: Global, offered: Offered) -> Option<Incoming> {
     match offered {
         Offered::Nothing => None,
         Offered::Part(text) => Some(request(octets(alloc, text), true)),
+        Offered::Long(length) => Some(request(zeros(alloc, length), true)),
         Offered::Last(text) => Some(request(octets(alloc, text), false)),
         Offered::Disconnect => Some(Incoming::HttpDisconnect),
         Offered::Connect => Some(Incoming::WsConnect),

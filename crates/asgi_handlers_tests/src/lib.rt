@@ -9,3 +9,5 @@ mod promises;
 mod replies;
 #[cfg(test)]
 mod requests;
+#[cfg(test)]
+mod wrappers;
