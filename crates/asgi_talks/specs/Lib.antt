@@ -1,5 +1,6 @@
 pub mod Answering
 pub mod Both
+pub mod Either
 pub mod Making
 pub mod Quiet
 pub mod Sessions

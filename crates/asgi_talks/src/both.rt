@@ -6,12 +6,11 @@ ghost use Rattle.asgi_types.specs.declared.outgoing.Outgoing.{Outgoing};
 ghost use Rattle.asgi_types.specs.declared.end_kind.EndKind.{EndKind};
 ghost use Rattle.asgi_types.specs.declared.end_kind.EndKind.TheVariants.{Faulted};
 ghost use Rattle.asgi_apps.specs.Scopes.{kind_of};
-ghost use Rattle.asgi_talks.specs.Both.{BothAnswers, BothStands};
+ghost use Rattle.asgi_talks.specs.Either.{EitherAnswers, EitherStands};
 
-use asgi_apps::{AppFault, AppTask, Application};
-use asgi_pipes::AppEnd;
+use crate::either::Either;
+use asgi_apps::{AppFault, Application};
 use asgi_types::Scope;
-use futures::task::{Context, Poll};
 use std::alloc::Global;
 
 /// Two applications as one: requests go to the first, sessions to the second. A lifespan scope goes
@@ -24,25 +23,16 @@ pub struct Both<A, B> {
     pub ws: B,
 }
 
-/// The task of one of the two.
-#[derive(Drop)]
-pub enum BothTask<T, U> {
-    /// A task of the application of requests.
-    Http(T),
-    /// A task of the application of sessions.
-    WebSocket(U),
-}
-
 impl<A: Application, B: Application> Application for Both<A, B> {
     ghost use Rattle.asgi_talks.specs.Both.{BothAnswer, BothRefuse};
 
-    type Task = BothTask<A::Task, B::Task>;
+    type Task = Either<A::Task, B::Task>;
 
     ghost answers = { λ both. BothAnswer A.answers B.answers both.http both.ws };
 
     ghost refuses = { λ both. BothRefuse A.refuses B.refuses both.http both.ws };
 
-    fn call(&self, alloc: Global, scope: &Scope) -> Result<BothTask<A::Task, B::Task>, AppFault> {
+    fn call(&self, alloc: Global, scope: &Scope) -> Result<Either<A::Task, B::Task>, AppFault> {
         match scope {
             Scope::Http(_) => self.call_http(alloc, scope),
             Scope::WebSocket(_) => self.call_ws(alloc, scope),
@@ -54,7 +44,7 @@ impl<A: Application, B: Application> Application for Both<A, B> {
         &self,
         alloc: Global,
         scope: Scope,
-    ) -> Result<BothTask<A::Task, B::Task>, AppFault> {
+    ) -> Result<Either<A::Task, B::Task>, AppFault> {
         match scope {
             Scope::Http(_) => self.call_http_owned(alloc, scope),
             Scope::WebSocket(_) => self.call_ws_owned(alloc, scope),
@@ -65,35 +55,31 @@ impl<A: Application, B: Application> Application for Both<A, B> {
 
 impl<A: Application, B: Application> Both<A, B> {
     /// Calls the application of requests.
-    fn call_http(
-        &self,
-        alloc: Global,
-        scope: &Scope,
-    ) -> Result<BothTask<A::Task, B::Task>, AppFault>
-        ensures stands { IfOk result (λ task. BothStands A.Task.AppTask.stands B.Task.AppTask.stands task (kind_of scope.now) [] []) }
+    fn call_http(&self, alloc: Global, scope: &Scope) -> Result<Either<A::Task, B::Task>, AppFault>
+        ensures stands { IfOk result (λ task. EitherStands A.Task.AppTask.stands B.Task.AppTask.stands task (kind_of scope.now) [] []) }
         ensures answers { IfOk result (λ task. (heard : List Incoming) (said : List Outgoing) (ended : Option EndKind)
-            → BothAnswers A.Task.AppTask.answers B.Task.AppTask.answers task heard said ended
+            → EitherAnswers A.Task.AppTask.answers B.Task.AppTask.answers task heard said ended
             → A.answers self.now.http scope.now heard said ended) }
         ensures failed { IsErrOf result AppFault.Failed → A.refuses self.now.http scope.now }
         ensures fault { OnErr result (A.answers self.now.http scope.now [] [] (Some Faulted)) }
     {
         match self.http.call(alloc, scope) {
-            Ok(task) => Ok(BothTask::Http(task)),
+            Ok(task) => Ok(Either::First(task)),
             Err(e) => Err(e),
         }
     }
 
     /// Calls the application of sessions.
-    fn call_ws(&self, alloc: Global, scope: &Scope) -> Result<BothTask<A::Task, B::Task>, AppFault>
-        ensures stands { IfOk result (λ task. BothStands A.Task.AppTask.stands B.Task.AppTask.stands task (kind_of scope.now) [] []) }
+    fn call_ws(&self, alloc: Global, scope: &Scope) -> Result<Either<A::Task, B::Task>, AppFault>
+        ensures stands { IfOk result (λ task. EitherStands A.Task.AppTask.stands B.Task.AppTask.stands task (kind_of scope.now) [] []) }
         ensures answers { IfOk result (λ task. (heard : List Incoming) (said : List Outgoing) (ended : Option EndKind)
-            → BothAnswers A.Task.AppTask.answers B.Task.AppTask.answers task heard said ended
+            → EitherAnswers A.Task.AppTask.answers B.Task.AppTask.answers task heard said ended
             → B.answers self.now.ws scope.now heard said ended) }
         ensures failed { IsErrOf result AppFault.Failed → B.refuses self.now.ws scope.now }
         ensures fault { OnErr result (B.answers self.now.ws scope.now [] [] (Some Faulted)) }
     {
         match self.ws.call(alloc, scope) {
-            Ok(task) => Ok(BothTask::WebSocket(task)),
+            Ok(task) => Ok(Either::Second(task)),
             Err(e) => Err(e),
         }
     }
@@ -103,16 +89,16 @@ impl<A: Application, B: Application> Both<A, B> {
         &self,
         alloc: Global,
         scope: Scope,
-    ) -> Result<BothTask<A::Task, B::Task>, AppFault>
-        ensures stands { IfOk result (λ task. BothStands A.Task.AppTask.stands B.Task.AppTask.stands task (kind_of scope) [] []) }
+    ) -> Result<Either<A::Task, B::Task>, AppFault>
+        ensures stands { IfOk result (λ task. EitherStands A.Task.AppTask.stands B.Task.AppTask.stands task (kind_of scope) [] []) }
         ensures answers { IfOk result (λ task. (heard : List Incoming) (said : List Outgoing) (ended : Option EndKind)
-            → BothAnswers A.Task.AppTask.answers B.Task.AppTask.answers task heard said ended
+            → EitherAnswers A.Task.AppTask.answers B.Task.AppTask.answers task heard said ended
             → A.answers self.now.http scope heard said ended) }
         ensures failed { IsErrOf result AppFault.Failed → A.refuses self.now.http scope }
         ensures fault { OnErr result (A.answers self.now.http scope [] [] (Some Faulted)) }
     {
         match self.http.call_owned(alloc, scope) {
-            Ok(task) => Ok(BothTask::Http(task)),
+            Ok(task) => Ok(Either::First(task)),
             Err(e) => Err(e),
         }
     }
@@ -122,34 +108,17 @@ impl<A: Application, B: Application> Both<A, B> {
         &self,
         alloc: Global,
         scope: Scope,
-    ) -> Result<BothTask<A::Task, B::Task>, AppFault>
-        ensures stands { IfOk result (λ task. BothStands A.Task.AppTask.stands B.Task.AppTask.stands task (kind_of scope) [] []) }
+    ) -> Result<Either<A::Task, B::Task>, AppFault>
+        ensures stands { IfOk result (λ task. EitherStands A.Task.AppTask.stands B.Task.AppTask.stands task (kind_of scope) [] []) }
         ensures answers { IfOk result (λ task. (heard : List Incoming) (said : List Outgoing) (ended : Option EndKind)
-            → BothAnswers A.Task.AppTask.answers B.Task.AppTask.answers task heard said ended
+            → EitherAnswers A.Task.AppTask.answers B.Task.AppTask.answers task heard said ended
             → B.answers self.now.ws scope heard said ended) }
         ensures failed { IsErrOf result AppFault.Failed → B.refuses self.now.ws scope }
         ensures fault { OnErr result (B.answers self.now.ws scope [] [] (Some Faulted)) }
     {
         match self.ws.call_owned(alloc, scope) {
-            Ok(task) => Ok(BothTask::WebSocket(task)),
+            Ok(task) => Ok(Either::Second(task)),
             Err(e) => Err(e),
         }
     }
-}
-
-impl<T: AppTask, U: AppTask> AppTask for BothTask<T, U> {
-    ghost use Rattle.asgi_talks.specs.Both.{both_keeps};
-
-    ghost stands = { BothStands T.stands U.stands };
-
-    ghost answers = { BothAnswers T.answers U.answers };
-
-    fn poll<E: AppEnd>(&mut self, cx: &mut Context<'_>, end: &mut E) -> Poll<Result<(), AppFault>> {
-        match self {
-            BothTask::Http(task) => task.poll(cx, end),
-            BothTask::WebSocket(task) => task.poll(cx, end),
-        }
-    }
-
-    ghost keeps = { both_keeps T.stands T.answers U.stands U.answers T.keeps U.keeps };
 }

@@ -4,6 +4,7 @@
 
 mod answer;
 mod both;
+mod either;
 mod hosted;
 pub mod laws;
 mod messages;
@@ -16,7 +17,8 @@ mod talker;
 mod talking;
 
 pub use answer::{Answer, Close};
-pub use both::{Both, BothTask};
+pub use both::Both;
+pub use either::Either;
 pub use hosted::{Hosted, HostedTalker};
 pub use messages::Messages;
 pub use opened::Opened;
