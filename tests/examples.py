@@ -335,6 +335,17 @@ class Chat(unittest.TestCase):
             ends, status = served.ended()
             self.assertEqual((len(ends), status), (2, 0))
 
+    def test_a_page_of_another_site_has_no_part_in_it(self):
+        with Program("chat_example", 4) as served:
+            here = f"http://127.0.0.1:{served.port}"
+            for origin, status in ((here, 101), ("http://127.0.0.1", 403), ("http://other.example", 403), ("null", 403)):
+                line = http.client.HTTPConnection("127.0.0.1", served.port, timeout=SECONDS)
+                fields = {"Upgrade": "websocket", "Connection": "Upgrade", "Sec-WebSocket-Version": "13", "Origin": origin}
+                line.request("GET", "/", headers={**fields, "Sec-WebSocket-Key": "dGhlIHNhbXBsZSBub25jZQ=="})
+                self.assertEqual(line.getresponse().status, status, origin)
+                line.close()
+            self.assertEqual(len(served.ended()[0]), 4)
+
     def test_the_page(self):
         with Program("chat_example", 1) as served:
             line = http.client.HTTPConnection("127.0.0.1", served.port, timeout=SECONDS)

@@ -2,6 +2,7 @@ pub mod Answering
 pub mod Both
 pub mod Either
 pub mod Making
+pub mod Origins
 pub mod Quiet
 pub mod Sessions
 pub mod Talking

@@ -176,6 +176,11 @@ fn http_scope(alloc: Global, asked: Asked) -> HttpScope {
     }
 }
 
+/// The scope of a session at the root, with no fields.
+pub fn root_scope(alloc: Global) -> WsScope {
+    ws_scope(alloc, asked_of(Ask::Session("/")))
+}
+
 fn ws_scope(alloc: Global, asked: Asked) -> WsScope {
     WsScope {
         asgi: Asgi::of(Kind::WebSocket),

@@ -10,6 +10,8 @@ mod driver;
 #[cfg(test)]
 mod handshakes;
 #[cfg(test)]
+mod origins;
+#[cfg(test)]
 mod promises;
 #[cfg(test)]
 mod telling;

@@ -1,5 +1,7 @@
 //! The sessions of the chat.
-use nomtsage::{Answer, AppFault, Chars, Opened, Payload, Talk, Talker, Tells, WsScope};
+use nomtsage::{
+    Answer, AppFault, Chars, Opened, Payload, Talk, Talker, Tells, WsScope, is_own_origin,
+};
 use std::alloc::Global;
 use std::sync::{Arc, Mutex, Wait};
 
@@ -20,7 +22,11 @@ pub struct Member<R> {
 impl<R: Wait + Copy + Drop> Talker for Chat<R> {
     type Session = Member<R>;
 
-    fn open(&self, alloc: Global, _scope: &WsScope) -> Result<Opened<Member<R>>, AppFault> {
+    fn open(&self, alloc: Global, scope: &WsScope) -> Result<Opened<Member<R>>, AppFault> {
+        // A page of another site is not to read along, nor to speak for the one who looks at it.
+        if !is_own_origin(scope) {
+            return Ok(Opened::Refused);
+        }
         let (rt, texts) = (self.rt, Arc::try_clone(&self.texts)?);
         let chat = Chat { rt, texts };
         Ok(Opened::accept(alloc, Member { chat, said: 0 }))

@@ -85,6 +85,7 @@ pub use asgi_talks::TalkedTask;
 pub use asgi_talks::Talker;
 pub use asgi_talks::Tells;
 pub use asgi_talks::Told;
+pub use asgi_talks::is_own_origin;
 pub use asgi_types::BadLimit;
 pub use asgi_types::Chars;
 pub use asgi_types::HeaderError;
