@@ -1,5 +1,6 @@
 pub mod Adding
 pub mod Endpoints
+pub mod Faults
 pub mod Laws
 pub mod Methods
 pub mod Patterns

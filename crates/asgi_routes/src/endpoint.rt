@@ -5,7 +5,8 @@ ghost use Rattle.asgi_handlers.specs.declared.reply.Reply.{Reply};
 ghost use Rattle.asgi_handlers.specs.Params.{Param, params_of};
 
 use asgi_apps::AppFault;
-use asgi_handlers::{Reply, Request};
+use asgi_handlers::{BodyLimit, Reply, Request};
+use log::Log;
 
 /// Gives a reply to each whole request of a route. What several requests share is behind the
 /// `&self`.
@@ -25,5 +26,20 @@ impl<E: Endpoint> Endpoint for &E {
 
     fn reply(&self, request: &Request<'_>) -> Result<Reply, AppFault> {
         E::reply(*self, request)
+    }
+}
+
+/// An endpoint with a limit of its own for bodies.
+impl<E: Endpoint, R: Log> Endpoint for BodyLimit<E, R> {
+    ghost use Rattle.asgi_handlers.specs.Limiting.{WithinLimit};
+
+    ghost replies = { λ limited scope params. WithinLimit (E.replies limited.handler scope params) limited.max_body };
+
+    fn reply(&self, request: &Request<'_>) -> Result<Reply, AppFault> {
+        match self.refusal(request) {
+            Ok(Some(reply)) => Ok(reply),
+            Ok(None) => self.handler.reply(request),
+            Err(e) => Err(e),
+        }
     }
 }

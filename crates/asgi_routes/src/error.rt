@@ -1,4 +1,5 @@
 //! Why a route was not added.
+use asgi_apps::AppFault;
 use matchit::InsertError;
 use std::alloc::AllocError;
 use thiserror::Error;
@@ -40,6 +41,25 @@ impl From<InsertError> for RouteError {
             InsertError::InvalidParam => RouteError::BadParameter,
             InsertError::InvalidCatchAll => RouteError::BadCatchAll,
             InsertError::OutOfMemory => RouteError::NoMemory(AllocError),
+        }
+    }
+}
+
+/// A route that was not added is a fault of the application's own, and want of memory stays that.
+impl From<RouteError> for AppFault {
+    ghost use Rattle.std.specs.Prelude.{◌≡◌};
+    ghost use Rattle.asgi_routes.specs.Faults.{fault_of};
+
+    ghost from_gives = { λ error fault. fault ≡ fault_of error };
+
+    fn from(error: RouteError) -> AppFault {
+        match error {
+            RouteError::BadParameter => AppFault::Failed,
+            RouteError::TwoParameters => AppFault::Failed,
+            RouteError::BadCatchAll => AppFault::Failed,
+            RouteError::Conflict => AppFault::Failed,
+            RouteError::Taken => AppFault::Failed,
+            RouteError::NoMemory(e) => AppFault::NoMemory(e),
         }
     }
 }

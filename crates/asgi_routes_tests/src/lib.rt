@@ -11,6 +11,8 @@ mod endpoints;
 #[cfg(test)]
 mod knocks;
 #[cfg(test)]
+mod limits;
+#[cfg(test)]
 mod promises;
 #[cfg(test)]
 mod refusals;
