@@ -9,6 +9,7 @@ Expected bytes are those of RFC 6455, and never what the program wrote before.
 
 import asyncio
 import os
+import select
 import shutil
 import socket
 import struct
@@ -471,9 +472,16 @@ FAULTS = [
     ),
     ("a continuation of nothing", frame(CONTINUATION, b"lo"), PROTOCOL_ERROR),
     ("a text within fragments", frame(TEXT, b"Hel", final=False) + frame(TEXT, b"lo"), PROTOCOL_ERROR),
-    # Its header alone is enough: the payload never comes.
+    # Of these the header alone is enough: the payload never comes.
     ("a frame over 16 MiB", b"\x82" + length_of(LONGEST + 1, 0x80) + MASK, TOO_BIG),
+    ("the head of an opcode without a meaning", b"\x83\x8a" + MASK, PROTOCOL_ERROR),
+    ("the head of a length of 10 in 16 bits", b"\x81\xfe" + struct.pack(">H", 10) + MASK, PROTOCOL_ERROR),
 ]
+# What is judged once the frame is whole, and not at its head.
+WHOLE = [
+    frame(TEXT, b"Hello", mask=False), frame(PING, b"Hello", final=False), frame(PING, pattern(126)), frame(CONTINUATION, b"lo"),
+    *(frame(TEXT, b"Hello", reserved=bits) for bits in (1, 2, 4, 7)),
+]  # fmt: skip
 
 
 # The codes that a close may have (sections 7.4.1 and 7.4.2), and those that were registered later, which may be taken or not.
@@ -605,6 +613,16 @@ class Faults(Case):
                 self.assertEqual(code_of(client.rest()), code)
                 # A close that is faulty by its code alone is one.
                 self.ends_well(served, "1 finished" if why.startswith("the close code") else "1 input-broke")
+
+    def test_a_frame_is_judged_once_it_is_whole(self):
+        for given in WHOLE:
+            with self.subTest(given=given[:8]), Served() as served, Client(served) as client:
+                client.open()
+                client.write(given[:-1])
+                self.assertEqual(select.select([client.line], [], [], 0.2)[0], [])
+                client.write(given[-1:])
+                self.assertEqual(code_of(client.rest()), PROTOCOL_ERROR)
+                self.ends_well(served)
 
     def test_what_comes_before_a_faulty_frame_is_answered(self):
         served, client = self.session()
