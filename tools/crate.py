@@ -2,8 +2,10 @@
 """crate.py new|run|check NAME: makes a crate of one's own, runs it without proofs, and proves it. `make new NAME=shop` calls it.
 
   crate.py new NAME                        makes crates/NAME out of the files of crates/asgi_new_example, and adds its line to crates.txt
-  crate.py run NAME [PORT [COUNT [SECONDS]]]   runs it by `rt try`, with no proof: it serves COUNT connections of the port, 1,000
-                                           if none are said, for SECONDS at the most, an hour if none are said
+  crate.py run NAME [PORT [COUNT [SECONDS]]]   runs it with no proof: it serves COUNT connections of the port, 1,000 if none are
+                                           said, for SECONDS at the most, an hour if none are said. It is compiled by `rt try`,
+                                           which begins to run it, and kept: it is compiled anew only once it, or a crate below
+                                           it, has changed
   crate.py run NAME -- WORD..              the same with these words, for a program that takes others than a port and a number
   crate.py check NAME                      proves it and the crates below it, proves and runs its tests, and builds crates/NAME/out/NAME
   crate.py --self-test                     tries what is said of bad input, on a copy of the template in a folder of its own
@@ -11,6 +13,7 @@
 The status is 0 if all went well, 2 for bad input, and 1 else.
 """
 
+import hashlib
 import os
 import re
 import shutil
@@ -22,7 +25,7 @@ import time
 
 sys.dont_write_bytecode = True
 sys.path.insert(0, os.path.dirname(os.path.realpath(__file__)))
-from progress import TOP, minutes, quiet, shown_path, text_of  # noqa: E402
+from progress import TOP, below, minutes, quiet, shown_path, text_of  # noqa: E402
 
 TEMPLATE = "asgi_new_example"
 # What a program of the template is given where nothing else is said, and the most that each may be.
@@ -44,6 +47,19 @@ NOISE = re.compile(
 )
 # How many lines of what is open are shown.
 MOST_LINES = 60
+# How often one looks whether a program that is compiled runs, in seconds.
+LOOKS = 0.3
+# How the toolchain says that a value is to be `Copy` and is not.
+COPY = r"the trait bound `[^`]*: Copy` is not satisfied"
+# What is said of a try whose program did not end, by its status.
+REFUSED = {
+    1: "the compiler refused it: the lines above say where",
+    3: "it could not be compiled within a limit of the toolchain",
+    4: "it made a fault that a proof would have refused: the lines above say which, and where",
+    5: "its two runs came to different ends: the lines above say how",
+}
+# Modules that no crate can have, whatever it uses.
+NO_MODULES = {"core", "std"}
 
 
 class Bad(Exception):
@@ -94,6 +110,17 @@ def find(name, top):
     if os.path.isdir(f"{top}/crates/{name}/src"):
         raise Bad(f"crates/{name} is there, but crates.txt has no line for it: add one, '{name}: ' and then the crates that it uses")
     raise Bad(f"there is no crate {name}: make new NAME={name} makes one, and crates.txt lists those that are there")
+
+
+def check_modules(name, top):
+    """Stops if a module of the crate has the name of a crate that it uses, which the toolchain would find only later."""
+    [line] = [it for it in text_of(f"{top}/crates.txt").splitlines() if re.match(rf"{name}\b[^:]*:", it)]
+    for at, _, files in os.walk(f"{top}/crates/{name}/src"):
+        for file in sorted(files):
+            module = file.removesuffix(".rt")
+            if module in NO_MODULES | set(line.partition(":")[2].split()):
+                where = os.path.relpath(f"{at}/{file}", top)
+                raise Bad(f"{where}: no module can be named {module}, as a crate that {name} uses is: give the file another name, and its `mod`")
 
 
 def number(word, what, most):
@@ -156,11 +183,119 @@ def tell_when_listening(port, ran, count, seconds):
         time.sleep(0.1)
 
 
+def sources_of(name, top):
+    """Returns the files of which a crate is compiled: its own, and those of the crates below it."""
+    crates = below(text_of(f"{top}/crates.txt"), name)
+    walked = [os.walk(f"{top}/crates/{it}/src") for it in crates]
+    return sorted(f"{at}/{it}" for walk in walked for at, _, files in walk for it in files if it.endswith(".rt"))
+
+
+def sum_of(name, top):
+    """Returns a checksum of all of which a program is compiled: its sources, crates.txt, and the toolchain."""
+    rt = shutil.which("rt")
+    line = os.path.join(os.path.dirname(os.path.dirname(os.path.realpath(rt))), "KIT-ID") if rt else ""
+    found = hashlib.sha256(text_of(line).encode() if os.path.isfile(line) else b"")
+    for path in [f"{top}/crates.txt", *sources_of(name, top)]:
+        with open(path, "rb") as it:
+            text = it.read()
+        found.update(f"{os.path.relpath(path, top)} {len(text)}\n".encode() + text)
+    return found.hexdigest()
+
+
+def kept_at(name, top):
+    """Returns where a compiled program is kept, and the checksum of what it was compiled of."""
+    return f"{top}/tests/out/run/{name}", f"{top}/tests/out/run/{name}.sum"
+
+
+def is_kept(name, top):
+    """Returns whether the program that is kept was compiled of what is there now."""
+    program, sums = kept_at(name, top)
+    return os.access(program, os.X_OK) and os.path.isfile(sums) and text_of(sums) == sum_of(name, top)
+
+
+def begun_in(room):
+    """Returns the path of the program that a try runs in a folder of the room, and its length, or None.
+
+    The try puts it beside what it is given and what it prints."""
+    for at, _, files in os.walk(room):
+        if {"program", "stdin", "stdout", "stderr"} <= set(files):
+            try:
+                return f"{at}/program", os.path.getsize(f"{at}/program")
+            except OSError:
+                return None
+    return None
+
+
+def is_linked(path, program):
+    """Links what has this path under this name, too, and returns whether it was there."""
+    try:
+        os.link(path, program)
+    except OSError:
+        return False
+    return True
+
+
+def compiled(name, words, top, folder):
+    """Compiles the program by `rt try`, which begins to run it. Once it runs it is kept, and that run is ended.
+
+    Returns None if it is kept, and else what came of the try: the program ended at once, or was refused."""
+    program, sums = kept_at(name, top)
+    os.makedirs(os.path.dirname(program), exist_ok=True)
+    for it in (program, sums):
+        if os.path.lexists(it):
+            os.remove(it)
+    summed, is_found, begun = sum_of(name, top), False, None
+    with tempfile.TemporaryDirectory(prefix="try-", dir=f"{top}/tests/out") as room, open(f"{room}/said", "w+", errors="replace", encoding="utf-8") as said:
+        how = {"cwd": folder, "stdin": subprocess.DEVNULL, "stderr": said}
+        ran = subprocess.Popen(["rt", "try", "--", *words], env={**os.environ, "TMPDIR": room}, **how)
+        try:
+            while not is_found and ran.poll() is None:
+                time.sleep(LOOKS)
+                before, begun = begun, begun_in(room)
+                is_found = begun is not None and begun == before and is_linked(begun[0], program)
+            if is_found:
+                ran.terminate()
+            status = ran.wait()
+        except KeyboardInterrupt:
+            ran.wait()
+            raise
+        said.seek(0)
+        text = said.read()
+    if is_found:
+        with open(sums, "w", encoding="utf-8") as it:
+            it.write(summed)
+        return None
+    print(text, end="", file=sys.stderr, flush=True)
+    for hint in hints_of(text, name, top):
+        print(hint, file=sys.stderr, flush=True)
+    return status, tried(text.splitlines()[-1] if text else "", status)
+
+
+def tried(last, status):
+    """Returns what came of a try, by its last line and its status, which is the program's own if that ended."""
+    ended = re.match(r"run=ended status=(\d+) ", last)
+    return ended_with(int(ended[1])) if ended else REFUSED.get(status, "it did not run: the lines above say why")
+
+
+def hints_of(text, name, top):
+    """Returns what a person can do about what the toolchain says."""
+    found, known = [], libraries() | set(crates_in(top))
+    for library in dict.fromkeys(re.findall(r"there is no `(\w+)` in the crate root", text)):
+        if library in known:
+            found.append(f"hint: {library} is a crate that {name} does not list: add it to the line '{name}: ..' of crates.txt")
+        else:
+            found.append(f"hint: if {library} is to be a crate, crates.txt lists those of this repository, and `rt doc` leads to those of the toolchain")
+    if re.search(COPY, text):
+        found.append("hint: what `Handled`, `Talked` or `Told` holds is `Copy`; serve a value that is not by Shared::new(alloc, value)?")
+    return found
+
+
 def run(name, words, top):
     folder = find(name, top)
     if not os.path.isfile(f"{folder}/src/main.rt"):
         raise Bad(f"crates/{name} is a library, with no src/main.rt to run: its tests run by  cd crates/{name} && rt try --test")
-    flags, port, count, seconds = [], None, COUNT, SECONDS
+    check_modules(name, top)
+    port, count, seconds = None, COUNT, SECONDS
     if words[:1] == ["--"]:
         words = words[1:]
     else:
@@ -173,40 +308,45 @@ def run(name, words, top):
         if listens(port):
             raise Bad(f"port {port} is in use: make run NAME={name} PORT={port + 1 if port < MOST_PORT else port - 1}")
         words = [str(port), str(count)]
-    flags = ["--seconds", str(seconds)]
-    print(f"compiling crates/{name} and the crates below it, without proofs; what it prints is shown when it has ended", flush=True)
-    how = {"cwd": folder, "stdin": subprocess.DEVNULL, "stderr": subprocess.PIPE}
-    ran = subprocess.Popen(["rt", "try", *flags, "--", *words], errors="replace", **how)
+    if not is_kept(name, top):
+        print(f"compiling crates/{name} and the crates below it, without proofs", flush=True)
+        try:
+            ended = compiled(name, words, top, folder)
+        except KeyboardInterrupt:
+            print("\nstopped")
+            return 0
+        if ended:
+            print(ended[1])
+            return 1 if ended[0] else 0
+    return served(kept_at(name, top)[0], words, port, count, seconds)
+
+
+def served(program, words, port, count, seconds):
+    """Runs a program in the folder in which one stands, for so many seconds at the most. Returns the status."""
+    ran = subprocess.Popen([program, *words], stdin=subprocess.DEVNULL)
     if port:
         threading.Thread(target=tell_when_listening, args=(port, ran, count, seconds), daemon=True).start()
-    last = ""
     try:
-        for line in ran.stderr:
-            print(line, end="", file=sys.stderr, flush=True)
-            last = line
-        status = ran.wait()
-    except KeyboardInterrupt:
-        # `rt` hears the signal as well, and ends the program.
+        status = ran.wait(timeout=seconds)
+    except subprocess.TimeoutExpired:
+        ran.kill()
         ran.wait()
-        print("\nstopped. What it had printed is lost: rt try shows it only at the end")
+        print(f"it was still running after {seconds:,} seconds, and was ended: SECONDS=.. allows more time")
+        return 1
+    except KeyboardInterrupt:
+        # The program hears the signal as well.
+        ran.wait()
+        print("\nstopped")
         return 0
-    print(ending_of(last, status, seconds))
+    print(ended_with(status))
     return 1 if status else 0
 
 
-def ending_of(last, status, seconds):
-    """Returns what came of a try, by its last line and its status, which is the program's own if that ended."""
-    ended = re.match(r"run=ended status=(\d+) ", last)
-    if ended:
-        return f"it ended with status {ended[1]}. Nothing of it is proved: make check does that"
-    said = {
-        1: "the compiler refused it: the lines above say where",
-        3: "it could not be compiled within a limit of the toolchain",
-        4: "it made a fault that a proof would have refused: the lines above say which, and where",
-        5: "its two runs came to different ends: the lines above say how",
-        6: f"it was still running after {seconds:,} seconds, or printed more than 1 MiB, and was ended: SECONDS=.. allows more time",
-    }
-    return said.get(status, "it did not run: the lines above say why")
+def ended_with(status):
+    """Returns what came of a run, by its status."""
+    if status < 0:
+        return f"it was ended by signal {-status}: a fault that a proof would have refused, or someone else's"
+    return f"it ended with status {status}. Nothing of it is proved: make check does that"
 
 
 # ---- check
@@ -219,6 +359,7 @@ def open_lines(text):
 
 def check(name, top):
     folder = find(name, top)
+    check_modules(name, top)
     is_program = os.path.isfile(f"{folder}/src/main.rt")
     has_tests = any("#[test]" in text_of(f"{at}/{it}") for at, _, files in os.walk(f"{folder}/src") for it in files)
     # A program is built by a run of it, which is stopped as soon as it begins.
@@ -231,7 +372,7 @@ def check(name, top):
         status, _, seconds = quiet(words, folder, log, name, until)
         if status:
             said = open_lines(text_of(log))
-            print(*said[:MOST_LINES], sep="\n")
+            print(*said[:MOST_LINES], *hints_of(text_of(log), name, top), sep="\n")
             more = f" and {len(said) - MOST_LINES} lines more" * (len(said) > MOST_LINES)
             print(f"{bad} ({minutes(seconds)}). The lines above say what is open{more}; all of the output is in {shown_path(log)}")
             print('docs/GUIDE.md, "What the checker says", has the usual ones')
@@ -267,16 +408,27 @@ BAD = [
     (["run", "taken", "80a"], "PORT is a number"),
     (["run", "taken", "8000", "none"], "COUNT is a number"),
     (["run", "taken", "8000", "1", "-1"], "SECONDS is a number"),
-    (["check", "nowhere"], "there is no crate nowhere"),
+    (["run", "named"], "no module can be named core"),
+    (["check", "named"], "no module can be named core"),
+    (["check", "uses"], "no module can be named asgi_types"),
+    (["check", "nowhere"], "there is no crate nowhere: make new NAME=nowhere makes one, and crates.txt lists"),
 ]
 # The last line of a try, its status, and a word of what is said.
-ENDS = [
+TRIES = [
     ("run=ended status=0 steps=9 runners=1 races=unchecked proved=no\n", 0, "ended with status 0"),
     ("run=ended status=5 runners=1 proved=no\n", 5, "ended with status 5"),
-    ("run=no-answer proved=no\n", 6, "still running after 9 seconds"),
     ("run=fault proved=no\n", 4, "a fault"),
     ("run=none proved=no\n", 1, "refused"),
     ("run=none proved=no\n", 2, "did not run"),
+]
+# The status of a run, and a word of what is said.
+ENDS = [(0, "ended with status 0"), (5, "ended with status 5"), (-6, "by signal 6")]
+# What the toolchain says, and a word of each hint.
+HINTS = [
+    ("src/main.rt:2:5: error[unknown-name]: unresolved import: there is no `asgi_types` in the crate root\n", ["'taken: ..' of crates.txt"]),
+    ("src/main.rt:2:5: error[unknown-name]: unresolved import: there is no `nowhere` in the crate root\n", ["crates.txt lists"]),
+    ("src/main.rt:7:16: error[unsatisfied-bound]: the trait bound `Shop: Copy` is not satisfied\n", ["Shared::new"]),
+    ("src/main.rt:7:16: error[unsatisfied-bound]: the trait bound `Shop: Send` is not satisfied\n", []),
 ]
 # Lines of a check, and whether they are shown.
 LINES = [
@@ -299,12 +451,13 @@ def self_test():
     wrong = []
     with tempfile.TemporaryDirectory() as top:
         shutil.copytree(f"{TOP}/crates/{TEMPLATE}", f"{top}/crates/{TEMPLATE}", ignore=shutil.ignore_patterns("out"))
-        for name in ("taken", "loose", "library"):
-            os.makedirs(f"{top}/crates/{name}/src")
-            with open(f"{top}/crates/{name}/src/{'lib' if name == 'library' else 'main'}.rt", "w", encoding="utf-8"):
+        files = ["taken/main", "loose/main", "library/lib", "named/main", "named/core", "uses/main", "uses/deep/asgi_types", "asgi_types/lib"]
+        for crate, _, file in (it.partition("/") for it in files):
+            os.makedirs(os.path.dirname(f"{top}/crates/{crate}/src/{file}"), exist_ok=True)
+            with open(f"{top}/crates/{crate}/src/{file}.rt", "w", encoding="utf-8"):
                 pass
         with open(f"{top}/crates.txt", "w", encoding="utf-8") as it:
-            it.write(f"# lowest first\n{TEMPLATE} status=2: asgi_types asgi_apps\ntaken: asgi_types\nlibrary:\n")
+            it.write(f"# lowest first\n{TEMPLATE} status=2: asgi_types asgi_apps\ntaken: asgi_types\nlibrary:\nnamed:\nuses: asgi_types\nasgi_types:\n")
         for words, word in BAD:
             try:
                 do(words, top)
@@ -319,12 +472,40 @@ def self_test():
         line = text_of(f"{top}/crates.txt").splitlines()[-1]
         wrong += [f"self-test: the line of the new crate is {line}"] * (line != "shop status=2: asgi_types asgi_apps")
         wrong += [f"self-test: there is left: {it}" for it in os.listdir(f"{top}/crates") if it.startswith(".")]
-    for last, status, word in ENDS:
-        said = ending_of(last, status, 9)
+        wrong += kept_wrongly(top)
+        for text, words in HINTS:
+            said = hints_of(text, "taken", top)
+            wrong += [f"self-test: of {text!r} is said: {said}"] * (len(said) != len(words) or any(it not in line for it, line in zip(words, said)))
+    for last, status, word in TRIES:
+        said = tried(last, status)
         wrong += [f"self-test: of the end {last!r} is said: {said}"] * (word not in said)
+    for status, word in ENDS:
+        said = ended_with(status)
+        wrong += [f"self-test: of the status {status} is said: {said}"] * (word not in said)
     for line, is_shown in LINES:
         wrong += [f"self-test: shown or not, wrongly: {line}"] * (bool(open_lines(line)) != is_shown)
-    return wrong, len(BAD) + 4 + len(ENDS) + len(LINES)
+    return wrong, len(BAD) + 4 + len(CHANGES) + len(HINTS) + len(TRIES) + len(ENDS) + len(LINES)
+
+
+# What is changed behind a compiled program, and whether that is still kept.
+CHANGES = [("crates/asgi_types/notes", True), ("crates/named/src/main.rt", True), ("crates/asgi_types/src/lib.rt", False), ("crates/taken/src/deep/more.rt", False), ("crates.txt", False)]
+
+
+def kept_wrongly(top):
+    """Returns what is wrong with what is said of a program that was kept before a change."""
+    wrong = []
+    program, sums = kept_at("taken", top)
+    os.makedirs(os.path.dirname(program))
+    for path, is_same in CHANGES:
+        shutil.copy("/bin/true", program)
+        with open(sums, "w", encoding="utf-8") as it:
+            it.write(sum_of("taken", top))
+        wrong += [f"self-test: nothing has changed before {path}, and it is not kept"] * (not is_kept("taken", top))
+        os.makedirs(os.path.dirname(f"{top}/{path}"), exist_ok=True)
+        with open(f"{top}/{path}", "a", encoding="utf-8") as it:
+            it.write("# \n")
+        wrong += [f"self-test: kept or not, wrongly: {path}"] * (is_kept("taken", top) != is_same)
+    return wrong
 
 
 def do(words, top):
