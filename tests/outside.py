@@ -27,6 +27,7 @@ SCRIPTS = [
     ["tests/seats.py"],
     ["tests/reactor.py"],
     ["tests/turns.py"],
+    ["tests/streams.py"],
     ["tests/library.py"],
     ["tests/examples.py"],
     *(["tests/many.py", PROGRAM, it] for it in EACH),

@@ -1,9 +1,11 @@
 //! A web server for applications of one's own, with all that such an application names: one crate to depend on.
 #![tactic(auto)]
 
+mod console;
 mod ending;
 mod engines;
 mod fault;
+mod opened;
 mod returning;
 mod seated;
 mod seats;
@@ -108,6 +110,8 @@ pub use asgi_types::StateError;
 pub use asgi_types::StateValue;
 pub use asgi_types::WsScope;
 pub use asgi_ws::Line;
+pub use console::Console;
+pub use console::Standard;
 pub use ending::Ending;
 pub use engines::HasWorkers;
 pub use engines::InSeats;

@@ -4,8 +4,10 @@ ghost use Rattle.std.specs.Process.{exit_status};
 ghost use Rattle.nomtsage.specs.Running.{settings};
 ghost use Rattle.nomtsage.specs.Seats.{RanFew, RunsSeats, RunsSeatsTo};
 
+use crate::console::Console;
 use crate::engines::InSeats;
 use crate::fault::{ListenFault, ServeError};
+use crate::opened::{Opened, open_reactor};
 use crate::returning::result_of;
 use crate::seats::serve_in_seats;
 use crate::server::{Server, error_of, failed};
@@ -55,7 +57,7 @@ impl<'a, K: Teller<Report> + Drop, E: OnEnd + Drop> Server<'a, K, E, InSeats> {
     ///
     /// The error names what could not be had or did not end well. If the address can't be listened on the application is
     /// not started; if the application does not start, no connection is accepted.
-    pub fn run<'r, H: Net + Clock + Log + Host, A: Application>(
+    pub fn run<'r, H: Net + Console + Log + Host, A: Application>(
         self,
         rt: &'r H,
         app: &A,
@@ -76,8 +78,8 @@ impl<'a, K: Teller<Report> + Drop, E: OnEnd + Drop> Server<'a, K, E, InSeats> {
             engines,
         } = self;
         let numbers = numbers_of(engines.seats, count);
-        let reactor = match SocketReactor::open(rt, rt.alloc(), address, &numbers, flag_of(stop)) {
-            Ok(reactor) => reactor,
+        let opened = match open_reactor(rt, address, &numbers, flag_of(stop)) {
+            Ok(opened) => opened,
             Err(e) => {
                 return Err(ServeError::CannotListen {
                     address,
@@ -85,6 +87,10 @@ impl<'a, K: Teller<Report> + Drop, E: OnEnd + Drop> Server<'a, K, E, InSeats> {
                 });
             }
         };
+        let Opened {
+            socket: reactor,
+            held: _held,
+        } = opened;
         let tells = Tells {
             on_report,
             on_end: &on_end,
@@ -93,7 +99,7 @@ impl<'a, K: Teller<Report> + Drop, E: OnEnd + Drop> Server<'a, K, E, InSeats> {
     }
 
     /// The same for a `main`: the error is written to the log, and the exit status is by it (`ServeError::status`).
-    pub fn serve<'r, H: Net + Clock + Log + Host, A: Application>(
+    pub fn serve<'r, H: Net + Console + Log + Host, A: Application>(
         self,
         rt: &'r H,
         app: &A,
@@ -134,7 +140,7 @@ pub(crate) fn numbers_of(seats: usize, count: u64) -> Numbers
 /// Serves the connections of a socket that is open, and that was asked for none yet.
 fn listened_in_seats<
     'a,
-    H: Net + Clock + Log + Host,
+    H: Net + Console + Log + Host,
     A: Application,
     E: OnEnd,
     K: Teller<Report> + Drop,

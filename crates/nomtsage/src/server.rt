@@ -4,8 +4,10 @@ ghost use Rattle.asgi_server.specs.Arrivals.{IsLoopbackAt};
 ghost use Rattle.std.specs.Process.{exit_status};
 ghost use Rattle.nomtsage.specs.Running.{IsNumber, IsNumberBy, Ran, Runs, RunsTo, settings, status_of};
 
+use crate::console::Console;
 use crate::engines::{HasWorkers, InSeats, InThread, InWorker};
 use crate::fault::{ListenFault, ServeError};
+use crate::opened::{Opened, open_listening};
 use crate::returning::result_of;
 use crate::serve::{serve_in_worker_on, serve_on};
 use crate::stop::{Stop, flag_of};
@@ -272,7 +274,7 @@ impl<'a, K: Teller<Report> + Drop + Send, E: OnEnd + Drop + Send + Sync> Server<
     pub fn run<
         'r,
         S: OpenStream + Read + Write + Drop + Send,
-        H: Net<Stream = S> + Clock + Log + Host + Sync,
+        H: Net<Stream = S> + Console + Log + Host + Sync,
         T: AppTask + Send + 'static,
         A: Application<Task = T> + Send + Sync,
     >(self, rt: &'r H, app: &A) -> Result<(), ServeError>
@@ -293,7 +295,7 @@ impl<'a, K: Teller<Report> + Drop + Send, E: OnEnd + Drop + Send + Sync> Server<
     fn run_by<
         'r,
         S: OpenStream + Read + Write + Drop + Send,
-        H: Net<Stream = S> + Clock + Log + Host + Sync,
+        H: Net<Stream = S> + Console + Log + Host + Sync,
         T: AppTask + Send + 'static,
         A: Application<Task = T> + Send + Sync,
     >(self, rt: &'r H, app: &A, workers: Workers) -> Result<(), ServeError>
@@ -314,8 +316,8 @@ impl<'a, K: Teller<Report> + Drop + Send, E: OnEnd + Drop + Send + Sync> Server<
             workers: _asked,
             engines: _in_thread,
         } = self;
-        let listener = match Listening::open(rt, rt.alloc(), address, count, flag_of(stop)) {
-            Ok(listener) => listener,
+        let opened = match open_listening(rt, address, count, flag_of(stop)) {
+            Ok(opened) => opened,
             Err(e) => {
                 return Err(ServeError::CannotListen {
                     address,
@@ -323,6 +325,10 @@ impl<'a, K: Teller<Report> + Drop + Send, E: OnEnd + Drop + Send + Sync> Server<
                 });
             }
         };
+        let Opened {
+            socket: listener,
+            held: _held,
+        } = opened;
         listened(rt, &limits, workers, app, &on_end, listener, on_report)
     }
 
@@ -330,7 +336,7 @@ impl<'a, K: Teller<Report> + Drop + Send, E: OnEnd + Drop + Send + Sync> Server<
     pub fn serve<
         'r,
         S: OpenStream + Read + Write + Drop + Send,
-        H: Net<Stream = S> + Clock + Log + Host + Sync,
+        H: Net<Stream = S> + Console + Log + Host + Sync,
         T: AppTask + Send + 'static,
         A: Application<Task = T> + Send + Sync,
     >(self, rt: &'r H, app: &A) -> ExitCode
@@ -358,7 +364,7 @@ impl<'a, K: Teller<Report> + Drop + Send, E: OnEnd + Drop + Send + Sync, G: Drop
     pub fn run<
         'r,
         S: OpenStream + Read + Write + Drop + Send,
-        H: Net<Stream = S> + Clock + Log + Host + Sync,
+        H: Net<Stream = S> + Console + Log + Host + Sync,
         T: AppTask,
         A: Application<Task = T> + Send + Sync,
     >(self, rt: &'r H, app: &A) -> Result<(), ServeError>
@@ -380,7 +386,7 @@ impl<'a, K: Teller<Report> + Drop + Send, E: OnEnd + Drop + Send + Sync, G: Drop
     fn run_by<
         'r,
         S: OpenStream + Read + Write + Drop + Send,
-        H: Net<Stream = S> + Clock + Log + Host + Sync,
+        H: Net<Stream = S> + Console + Log + Host + Sync,
         T: AppTask,
         A: Application<Task = T> + Send + Sync,
     >(self, rt: &'r H, app: &A, workers: Workers) -> Result<(), ServeError>
@@ -402,8 +408,8 @@ impl<'a, K: Teller<Report> + Drop + Send, E: OnEnd + Drop + Send + Sync, G: Drop
             workers: _asked,
             engines,
         } = self;
-        let listener = match Listening::open(rt, rt.alloc(), address, count, flag_of(stop)) {
-            Ok(listener) => listener,
+        let opened = match open_listening(rt, address, count, flag_of(stop)) {
+            Ok(opened) => opened,
             Err(e) => {
                 return Err(ServeError::CannotListen {
                     address,
@@ -411,6 +417,10 @@ impl<'a, K: Teller<Report> + Drop + Send, E: OnEnd + Drop + Send + Sync, G: Drop
                 });
             }
         };
+        let Opened {
+            socket: listener,
+            held: _held,
+        } = opened;
         listened_in_worker(
             rt, &limits, workers, app, &on_end, listener, on_report, &engines,
         )
@@ -420,7 +430,7 @@ impl<'a, K: Teller<Report> + Drop + Send, E: OnEnd + Drop + Send + Sync, G: Drop
     pub fn serve<
         'r,
         S: OpenStream + Read + Write + Drop + Send,
-        H: Net<Stream = S> + Clock + Log + Host + Sync,
+        H: Net<Stream = S> + Console + Log + Host + Sync,
         T: AppTask,
         A: Application<Task = T> + Send + Sync,
     >(self, rt: &'r H, app: &A) -> ExitCode
@@ -493,7 +503,7 @@ fn processors<H: Threads>(rt: &H) -> u64 {
 fn listened<
     'a,
     S: OpenStream + Read + Write + Drop + Send,
-    H: Net<Stream = S> + Clock + Log + Host + Sync,
+    H: Net<Stream = S> + Console + Log + Host + Sync,
     T: AppTask + Send + 'static,
     A: Application<Task = T> + Send + Sync,
     E: OnEnd + Send + Sync,
@@ -521,7 +531,7 @@ where
 fn listened_in_worker<
     'a,
     S: OpenStream + Read + Write + Drop + Send,
-    H: Net<Stream = S> + Clock + Log + Host + Sync,
+    H: Net<Stream = S> + Console + Log + Host + Sync,
     T: AppTask,
     A: Application<Task = T> + Send + Sync,
     E: OnEnd + Send + Sync,

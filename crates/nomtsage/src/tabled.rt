@@ -4,9 +4,11 @@ ghost use Rattle.std.specs.Process.{exit_status};
 ghost use Rattle.nomtsage.specs.Running.{IsNumberBy, settings};
 ghost use Rattle.nomtsage.specs.Tables.{RanTables, RunsTables, RunsTablesTo};
 
+use crate::console::Console;
 use crate::ending::Served;
 use crate::engines::{InSeats, InTables};
 use crate::fault::{ListenFault, ServeError};
+use crate::opened::{Opened, open_reactor};
 use crate::returning::result_of;
 use crate::seated::{numbers_of, say_where};
 use crate::server::{Server, error_of, failed, workers_of};
@@ -61,7 +63,7 @@ impl<'a, K: Teller<Report> + Copy + Drop + Send, E: OnEnd + Drop + Sync, G: Drop
     /// The error names what could not be had or did not end well. If the address can't be listened on the application is
     /// not started; if the application does not start, or a thread is refused, no connection is accepted. A thread whose listener
     /// failed ends, and the others go on until theirs does.
-    pub fn run<'r, H: Net + Clock + Log + Host + Sync, A: Application + Sync>(
+    pub fn run<'r, H: Net + Console + Log + Host + Sync, A: Application + Sync>(
         self,
         rt: &'r H,
         app: &A,
@@ -80,7 +82,7 @@ impl<'a, K: Teller<Report> + Copy + Drop + Send, E: OnEnd + Drop + Sync, G: Drop
     }
 
     /// The same in this many threads.
-    fn run_by<'r, H: Net + Clock + Log + Host + Sync, A: Application + Sync>(
+    fn run_by<'r, H: Net + Console + Log + Host + Sync, A: Application + Sync>(
         self,
         rt: &'r H,
         app: &A,
@@ -106,8 +108,8 @@ impl<'a, K: Teller<Report> + Copy + Drop + Send, E: OnEnd + Drop + Sync, G: Drop
         let numbers = numbers_of(engines.seats, count);
         let quota = Quota::new(count);
         let flag = flag_of(stop);
-        let posts = match open_posts(rt, address, &numbers, flag, &quota, workers, on_report) {
-            Ok(posts) => posts,
+        let opened = match open_posts(rt, address, &numbers, flag, &quota, workers, on_report) {
+            Ok(opened) => opened,
             Err(e) => {
                 return Err(ServeError::CannotListen {
                     address,
@@ -115,6 +117,10 @@ impl<'a, K: Teller<Report> + Copy + Drop + Send, E: OnEnd + Drop + Sync, G: Drop
                 });
             }
         };
+        let Opened {
+            socket: posts,
+            held: _held,
+        } = opened;
         let engine = &engines.engine;
         listened_in_tables(
             rt, &limits, &numbers, app, &on_end, engine, posts, workers, on_report,
@@ -122,7 +128,7 @@ impl<'a, K: Teller<Report> + Copy + Drop + Send, E: OnEnd + Drop + Sync, G: Drop
     }
 
     /// The same for a `main`: the error is written to the log, and the exit status is by it (`ServeError::status`).
-    pub fn serve<'r, H: Net + Clock + Log + Host + Sync, A: Application + Sync>(
+    pub fn serve<'r, H: Net + Console + Log + Host + Sync, A: Application + Sync>(
         self,
         rt: &'r H,
         app: &A,
@@ -141,7 +147,7 @@ impl<'a, K: Teller<Report> + Copy + Drop + Send, E: OnEnd + Drop + Sync, G: Drop
 }
 
 /// Opens a socket that listens at this address, and has what each thread serves of it.
-fn open_posts<'r, H: Net + Clock + Log + Host, K: Copy + Drop>(
+fn open_posts<'r, H: Net + Console + Log + Host, K: Copy + Drop>(
     rt: &'r H,
     address: SocketAddr,
     numbers: &Numbers,
@@ -149,12 +155,22 @@ fn open_posts<'r, H: Net + Clock + Log + Host, K: Copy + Drop>(
     quota: &'r Quota,
     threads: Workers,
     on_report: K,
-) -> io::Result<Vec<Post<'r, H, K>>>
-    ensures many { IfOk result (λ posts. vec_len posts ≡ threads.count) }
-    ensures fresh { IfOk result (λ posts. All (λ p. (p.reactor.told.items ≡ []) × (p.reactor.why ≡ None) × (p.on_report ≡ on_report)) posts.items) }
+) -> io::Result<Opened<Vec<Post<'r, H, K>>, H::Held>>
+    ensures many { IfOk result (λ o. vec_len o.socket ≡ threads.count) }
+    ensures fresh { IfOk result (λ o. All (λ p. (p.reactor.told.items ≡ []) × (p.reactor.why ≡ None) × (p.on_report ≡ on_report)) o.socket.items) }
 {
-    let first = SocketReactor::open(rt, rt.alloc(), address, numbers, flag)?;
-    posts_of(rt.alloc(), first.within(quota), numbers, threads, on_report)
+    let Opened { socket, held } = open_reactor(rt, address, numbers, flag)?;
+    let posts = posts_of(
+        rt.alloc(),
+        socket.within(quota),
+        numbers,
+        threads,
+        on_report,
+    )?;
+    Ok(Opened {
+        socket: posts,
+        held,
+    })
 }
 
 /// What each thread serves: this reactor, and one beside it for each other thread, with a copy of the teller each.
@@ -201,7 +217,7 @@ fn put<'r, H: Net + Clock, K: Copy + Drop>(
 /// Serves the connections of a socket that is open, and that was asked for none yet.
 fn listened_in_tables<
     'r,
-    H: Net + Clock + Log + Host + Sync,
+    H: Net + Console + Log + Host + Sync,
     A: Application + Sync,
     E: OnEnd + Sync,
     G: TableEngineOf<A> + Sync,

@@ -10,14 +10,14 @@ use crate::words::{App, Words};
 use crate::works::works;
 use log::Log;
 use nomtsage::{
-    Echo, Handled, Hello, Host, InSeats, Life, LogLines, NotFound, Quiet, Server, Stop, WsEcho,
+    Console, Echo, Handled, Hello, Host, InSeats, Life, LogLines, NotFound, Quiet, Server, Stop,
+    WsEcho,
 };
 use std::net::Net;
 use std::process::ExitCode;
-use std::time::Clock;
 
 /// Serves the application in the thread that calls.
-pub fn in_one_thread<H: Net + Clock + Log + Host + Drop>(rt: &H, words: &Words) -> ExitCode {
+pub fn in_one_thread<H: Net + Console + Log + Host + Drop>(rt: &H, words: &Words) -> ExitCode {
     let stop = Stop::new();
     let server = Server::at(words.address)
         .connections(words.count)
@@ -34,7 +34,7 @@ pub fn in_one_thread<H: Net + Clock + Log + Host + Drop>(rt: &H, words: &Words) 
 }
 
 /// The same of those of the library.
-fn library<H: Net + Clock + Log + Host + Drop>(
+fn library<H: Net + Console + Log + Host + Drop>(
     rt: &H,
     server: Server<'_, Quiet, LogLines<'_, H>, InSeats>,
     app: App,
@@ -64,7 +64,7 @@ fn library<H: Net + Clock + Log + Host + Drop>(
 }
 
 /// The same of those that are tasks of this program's own, and of the greeting.
-fn own<H: Net + Clock + Log + Host + Drop>(
+fn own<H: Net + Console + Log + Host + Drop>(
     rt: &H,
     server: Server<'_, Quiet, LogLines<'_, H>, InSeats>,
     app: App,

@@ -10,15 +10,14 @@ use crate::words::{App, Words};
 use crate::works::works;
 use log::Log;
 use nomtsage::{
-    Echo, Handled, Hello, Host, InTables, Life, LogLines, NotFound, OwnThread, Quiet, Server, Stop,
-    WsEcho,
+    Console, Echo, Handled, Hello, Host, InTables, Life, LogLines, NotFound, OwnThread, Quiet,
+    Server, Stop, WsEcho,
 };
 use std::net::Net;
 use std::process::ExitCode;
-use std::time::Clock;
 
 /// Serves the application in several threads.
-pub fn in_threads<H: Net + Clock + Log + Host + Sync + Drop>(
+pub fn in_threads<H: Net + Console + Log + Host + Sync + Drop>(
     rt: &H,
     words: &Words,
     count: u64,
@@ -40,7 +39,7 @@ pub fn in_threads<H: Net + Clock + Log + Host + Sync + Drop>(
 }
 
 /// The same of those of the library.
-fn library<H: Net + Clock + Log + Host + Sync + Drop>(
+fn library<H: Net + Console + Log + Host + Sync + Drop>(
     rt: &H,
     server: Server<'_, Quiet, LogLines<'_, H>, InTables<OwnThread>>,
     app: App,
@@ -70,7 +69,7 @@ fn library<H: Net + Clock + Log + Host + Sync + Drop>(
 }
 
 /// The same of those that are tasks of this program's own, and of the greeting.
-fn own<H: Net + Clock + Log + Host + Sync + Drop>(
+fn own<H: Net + Console + Log + Host + Sync + Drop>(
     rt: &H,
     server: Server<'_, Quiet, LogLines<'_, H>, InTables<OwnThread>>,
     app: App,

@@ -6,16 +6,15 @@ use crate::silent::Silent;
 use crate::words::{App, Words};
 use crate::works::works;
 use log::Log;
-use nomtsage::{Handled, Hello, Host, InThread, Life, LogLines, Quiet, Server, Stop};
+use nomtsage::{Console, Handled, Hello, Host, InThread, Life, LogLines, Quiet, Server, Stop};
 use std::io::{Read, Write};
 use std::net::{Net, OpenStream};
 use std::process::ExitCode;
-use std::time::Clock;
 
 /// Serves the application by so many workers, each task in a thread beside its worker. One that is none of these is `Hello`.
 pub fn by_workers<
     S: OpenStream + Read + Write + Drop + Send,
-    H: Net<Stream = S> + Clock + Log + Host + Sync + Send + Drop + 'static,
+    H: Net<Stream = S> + Console + Log + Host + Sync + Send + Drop + 'static,
 >(rt: &H, words: &Words, count: u64) -> ExitCode
 where
     H::Listener: Send,
@@ -39,7 +38,7 @@ where
 /// The same of those that are told of.
 fn logged<
     S: OpenStream + Read + Write + Drop + Send,
-    H: Net<Stream = S> + Clock + Log + Host + Sync + Send + Drop + 'static,
+    H: Net<Stream = S> + Console + Log + Host + Sync + Send + Drop + 'static,
 >(rt: &H, server: Server<'_, Quiet, LogLines<'_, H>, InThread>, app: App) -> ExitCode
 where
     H::Listener: Send,
@@ -58,7 +57,7 @@ where
 /// Serves the application by so many workers, each task in its worker. One that is none of these is `Hello`.
 pub fn in_workers<
     S: OpenStream + Read + Write + Drop + Send,
-    H: Net<Stream = S> + Clock + Log + Host + Sync + Drop,
+    H: Net<Stream = S> + Console + Log + Host + Sync + Drop,
 >(rt: &H, words: &Words, count: u64) -> ExitCode
 where
     H::Listener: Send,
