@@ -11,7 +11,7 @@ pub struct Ends<'a> {
 }
 
 /// The application that pulls this stop, whose sessions send each message back.
-pub fn ends(stop: &Stop) -> Both<Ends<'_>, WsEcho> {
+pub fn ended_by(stop: &Stop) -> Both<Ends<'_>, WsEcho> {
     Both {
         http: Ends { stop },
         ws: WsEcho,

@@ -1,13 +1,13 @@
 //! The applications, served in the thread that calls.
-use crate::ends::ends;
+use crate::ends::ended_by;
 use crate::handles::Handles;
 use crate::mounted::{limits_of, mounts};
 use crate::mute::Mute;
 use crate::routed::{rooms, routes};
 use crate::silent::Silent;
-use crate::tries::{Kind, tries};
+use crate::tries::{Kind, tried_as};
 use crate::words::{App, Words};
-use crate::works::works;
+use crate::works::that_works;
 use log::Log;
 use nomtsage::{
     Console, Echo, Handled, Hello, Host, InSeats, Life, LogLines, NotFound, Quiet, Server, Stop,
@@ -28,7 +28,7 @@ pub fn in_one_thread<H: Net + Console + Log + Host + Drop>(rt: &H, words: &Words
         App::Ends => server
             .stop(&stop)
             .log_connections(rt)
-            .serve(rt, &ends(&stop)),
+            .serve(rt, &ended_by(&stop)),
         app => library(rt, server.log_connections(rt), app),
     }
 }
@@ -73,11 +73,11 @@ fn own<H: Net + Console + Log + Host + Drop>(
         App::SilentStart => server.serve(rt, &Silent::Start),
         App::SilentStop => server.serve(rt, &Silent::Stop),
         App::Mute => server.serve(rt, &Mute),
-        App::Cuts => server.serve(rt, &tries(rt, Kind::Cuts)),
-        App::Flood => server.serve(rt, &tries(rt, Kind::Flood)),
-        App::Slow => server.serve(rt, &tries(rt, Kind::Slow)),
-        App::Works => server.serve(rt, &works(rt, false)),
-        App::Waits => server.serve(rt, &works(rt, true)),
+        App::Cuts => server.serve(rt, &tried_as(rt, Kind::Cuts)),
+        App::Flood => server.serve(rt, &tried_as(rt, Kind::Flood)),
+        App::Slow => server.serve(rt, &tried_as(rt, Kind::Slow)),
+        App::Works => server.serve(rt, &that_works(rt, false)),
+        App::Waits => server.serve(rt, &that_works(rt, true)),
         _ => server.serve(rt, &Hello),
     }
 }

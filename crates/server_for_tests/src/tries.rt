@@ -33,7 +33,7 @@ pub struct Tries<R> {
 }
 
 /// The application of this kind.
-pub fn tries<R: Copy>(rt: &R, kind: Kind) -> Tries<R> {
+pub fn tried_as<R: Copy>(rt: &R, kind: Kind) -> Tries<R> {
     Tries { rt: *rt, kind }
 }
 

@@ -1,10 +1,10 @@
 //! The applications that are served by workers.
-use crate::ends::ends;
+use crate::ends::ended_by;
 use crate::handles::Handles;
 use crate::mounted::limits_of;
 use crate::silent::Silent;
 use crate::words::{App, Words};
-use crate::works::works;
+use crate::works::that_works;
 use log::Log;
 use nomtsage::{Console, Handled, Hello, Host, InThread, Life, LogLines, Quiet, Server, Stop};
 use std::io::{Read, Write};
@@ -30,7 +30,7 @@ where
         App::Ends => server
             .stop(&stop)
             .log_connections(rt)
-            .serve(rt, &ends(&stop)),
+            .serve(rt, &ended_by(&stop)),
         app => logged(rt, server.log_connections(rt), app),
     }
 }
@@ -48,7 +48,7 @@ where
         App::NoStop => server.serve(rt, &Life::NoStop),
         App::SilentStart => server.serve(rt, &Silent::Start),
         App::SilentStop => server.serve(rt, &Silent::Stop),
-        App::Works => server.serve(rt, &works(rt, false)),
+        App::Works => server.serve(rt, &that_works(rt, false)),
         App::Handles => server.serve(rt, &Handled::new(Handles)),
         _ => server.serve(rt, &Hello),
     }
@@ -68,7 +68,7 @@ where
         .in_worker(rt)
         .workers(count);
     match words.app {
-        App::Works => server.serve(rt, &works(rt, false)),
+        App::Works => server.serve(rt, &that_works(rt, false)),
         _ => server.serve(rt, &Hello),
     }
 }

@@ -17,7 +17,7 @@ pub struct Works<R> {
 }
 
 /// The application that works, or waits.
-pub fn works<R: Copy>(rt: &R, waits: bool) -> Works<R> {
+pub fn that_works<R: Copy>(rt: &R, waits: bool) -> Works<R> {
     Works { rt: *rt, waits }
 }
 
