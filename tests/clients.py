@@ -376,7 +376,7 @@ class Soon(Case):
                 line.setsockopt(socket.IPPROTO_TCP, socket.TCP_NODELAY, 1)
                 line.sendall(HANDSHAKE)
                 self.assertTrue(line.recv(1 << 16).endswith(b"\r\n\r\n"))
-                self.assertTrue(any(self.median(line) < 0.0012 for _ in range(5)))
+                self.assertTrue(any(self.median(line) < 0.0012 for _ in range(12)))
                 line.sendall(b"\x88\x80\0\0\0\0")
                 self.assertEqual(read_all(line), b"\x88\0")
             self.assertEqual(server.ended(), well("1 finished"))
