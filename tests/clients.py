@@ -133,7 +133,7 @@ class TooMuch(Case):
             self.assertEqual(server.ended(), well(*["0 refused 413"] * 5))
 
 
-@asks(WORKERS)
+@asks(ONE, FOUR, WORKERS)
 class AtOnce(TooMuch):
     """A body that is sent at once."""
 
@@ -392,7 +392,7 @@ class Soon(Case):
                 line.setsockopt(socket.IPPROTO_TCP, socket.TCP_NODELAY, 1)
                 line.sendall(HANDSHAKE)
                 self.assertTrue(line.recv(1 << 16).endswith(b"\r\n\r\n"))
-                self.assertTrue(any(self.median(line, b"\x81\x85\0\0\0\0") < 3 * self.median_of_a_thread() + 0.001 for _ in range(5)))
+                self.assertTrue(any(self.median(line, b"\x81\x85\0\0\0\0") < 3 * self.median_of_a_thread() + 0.001 for _ in range(12)))
                 line.sendall(b"\x88\x80\0\0\0\0")
                 self.assertEqual(read_all(line), b"\x88\0")
             self.assertEqual(server.ended(), well("1 finished"))

@@ -359,14 +359,14 @@ class Library(unittest.TestCase):
 
     def is_left(self, port):
         """Whether the server leaves a connection in the system's queue for a while: nothing is answered."""
-        with socket.create_connection(("127.0.0.1", port), timeout=0.2) as line:
-            line.sendall(GET)
-            try:
+        try:
+            with socket.create_connection(("127.0.0.1", port), timeout=0.2) as line:
+                line.sendall(GET)
                 return not line.recv(1)
-            except TimeoutError:
-                return True
-            except ConnectionError:
-                return True
+        except TimeoutError:
+            return True
+        except ConnectionError:
+            return True
 
 
 def main():

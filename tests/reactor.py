@@ -12,8 +12,9 @@ import threading
 import time
 import unittest
 
+from library import Own
 from seats import Server, body_of, post, sums
-from servers import GET, GREETING, SECONDS, Own, read_all
+from servers import GET, GREETING, SECONDS, read_all
 
 MEGABYTE = 1_000_000
 # After how many bytes a client that sends on after its answer is left, and after how many ticks at the most, and of silence.
@@ -157,8 +158,8 @@ class Ending(unittest.TestCase):
 
     def test_who_connects_once_it_is_to_stop_is_refused(self):
         # The second has one seat, which is taken, so that it asks for no connection.
-        for app, seats in (("seatsends", 8), ("tablesends", 3)):
-            with self.subTest(app=app), Own(app, count=1000, workers=seats) as own:
+        for app in ("ends slots=8", "ends threads=3"):
+            with self.subTest(app=app), Own(app, count=1000) as own:
                 port = own.port()
                 begun = socket.create_connection(("127.0.0.1", port), timeout=SECONDS)
                 with begun:

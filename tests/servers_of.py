@@ -48,6 +48,7 @@ FAILED[FOUR] = FAILED[ONE]
 # Tests that are not for a server that their class asks: the script, the test, the server, and why it can't hold.
 IN_ORDER = "a connection is told of as it ends, under the number of its end"
 IN_THREAD = "its application has a thread of its own: a ping or a close that comes right behind a message may be answered before that"
+LINGERS = "it is read for 30 seconds: tests/reactor.py has it with shorter ticks"
 NOT_FOR = {
     **{
         ("sessions", test, WORKERS): IN_THREAD
@@ -63,6 +64,8 @@ NOT_FOR = {
         )
     },
     ("calls", "test_a_socket_that_accepts_nothing_ends_the_server", WORKERS): "its accept has begun before it fails: tests/faults.py has it fail from the start",
+    ("clients", "test_a_refused_client_that_sends_for_ever_is_left", ONE): LINGERS,
+    ("clients", "test_a_refused_client_that_sends_for_ever_is_left", FOUR): LINGERS,
     ("many", "test_as_many_are_served_at_once_as_there_are_workers", ONE): "all of its clients are served at once",
     ("many", "test_as_many_are_served_at_once_as_there_are_workers", FOUR): "all of its clients are served at once",
     ("many", "test_reports_are_told_in_order_as_soon_as_those_before_them_are_there", ONE): IN_ORDER,

@@ -616,13 +616,13 @@ class Faults(Case):
 
     def test_a_frame_is_judged_once_it_is_whole(self):
         for given in WHOLE:
-            with self.subTest(given=given[:8]), Served() as served, Client(served) as client:
+            with self.subTest(given=given[:8]), self.serves() as served, Client(served) as client:
                 client.open()
                 client.write(given[:-1])
                 self.assertEqual(select.select([client.line], [], [], 0.2)[0], [])
                 client.write(given[-1:])
                 self.assertEqual(code_of(client.rest()), PROTOCOL_ERROR)
-                self.ends_well(served)
+                self.ends_well(served, "1 input-broke")
 
     def test_what_comes_before_a_faulty_frame_is_answered(self):
         served, client = self.session()

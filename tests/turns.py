@@ -8,6 +8,7 @@ Usage: turns.py. What is compared is an order, and no time. The last line is 'N 
 import contextlib
 import select
 import sys
+import time
 import unittest
 
 import seats
@@ -26,10 +27,11 @@ class Turns(unittest.TestCase):
         with servers_of.Running(ONE, seats.servers.free_port(), "works", 2) as server:
             with server.connect() as busy, server.connect() as other:
                 busy.sendall(WORKS * 6)
-                # Its first answer has begun, so it has its turns.
-                text = busy.recv(1)
+                # It has its turns; what is answered leaves once it rests.
+                time.sleep(0.3)
                 other.sendall(CLOSES)
                 self.assertTrue(read_all(other).endswith(b"0\r\n\r\n"))
+                text = b""
                 busy.setblocking(False)
                 with contextlib.suppress(BlockingIOError):
                     while piece := busy.recv(MEBIBYTE):
