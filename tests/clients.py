@@ -26,8 +26,6 @@ from servers_of import FOUR, ONE, WORKERS, Running, asks, well
 
 # How long another client may have to wait where one holds a server of workers, and where each has its turn.
 WAITS = {WORKERS: 45, ONE: 5, FOUR: 5}
-# How long a client is waited for that takes nothing: 30 s, and a tick.
-PATIENCE = 40
 MEBIBYTE = 1 << 20
 # How many kilobytes a server may have grown by once a client has gone: what the allocator keeps.
 GROWTH = 1_024
@@ -351,51 +349,6 @@ class Waiting(Case):
                 line.close()
             self.assertEqual([(len(it), set(it)) for it in bodies], [(size, {ord("b")}) for size in sizes])
             self.assertEqual(server.ended(), well(*["1 finished"] * len(sizes)))
-
-
-@asks(WORKERS)
-class Soon(Case):
-    """That a word of a session comes back at once, and not when somebody looks."""
-
-    def median(self, line, head):
-        """How long it takes until a word comes back behind this head, in the middle of so many, with a while of silence before each."""
-        waits = []
-        for number in range(40):
-            time.sleep(0.06)
-            word = b"%05d" % number
-            began = time.monotonic()
-            line.sendall(head + word)
-            self.assertTrue(line.recv(100).endswith(word))
-            waits.append(time.monotonic() - began)
-        return sorted(waits)[len(waits) // 2]
-
-    def median_of_a_thread(self):
-        """The same of a thread of this script, which the system wakes once where it wakes the server's three times."""
-        ours, its = socket.socketpair()
-
-        def echo():
-            while word := its.recv(100):
-                its.sendall(word)
-
-        echoes = threading.Thread(target=echo)
-        echoes.start()
-        median = self.median(ours, b"")
-        ours.close()
-        echoes.join()
-        its.close()
-        return median
-
-    def test_a_word_comes_back_at_once(self):
-        # One who looks does so each 5 milliseconds. It is tried again where others have the processors.
-        with self.serves("wsecho", 1) as server:
-            with server.connect() as line:
-                line.setsockopt(socket.IPPROTO_TCP, socket.TCP_NODELAY, 1)
-                line.sendall(HANDSHAKE)
-                self.assertTrue(line.recv(1 << 16).endswith(b"\r\n\r\n"))
-                self.assertTrue(any(self.median(line, b"\x81\x85\0\0\0\0") < 3 * self.median_of_a_thread() + 0.001 for _ in range(12)))
-                line.sendall(b"\x88\x80\0\0\0\0")
-                self.assertEqual(read_all(line), b"\x88\0")
-            self.assertEqual(server.ended(), well("1 finished"))
 
 
 @asks(ONE, FOUR, WORKERS)
