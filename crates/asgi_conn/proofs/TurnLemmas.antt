@@ -7,13 +7,16 @@ use Rattle.asgi_conn.proofs.ConnWords.{Tally, IsServing, IsTallied, AppEnds, Con
 use Rattle.asgi_halves.specs.{Half.Invariant, Kinds.following_of, WebSocketHalf.Invariant as SessionInvariant}
 use Rattle.asgi_halves.specs.contracts.impls.{HttpHalfHalf.TheImpl.ghosts as http_half, WebSocketHalfHalf.TheImpl.ghosts as session_half}
 use Rattle.asgi_types.specs.declared.scope.Kind.{Kind}
-use Rattle.asgi_io.specs.{declared.turns.Turn.Turn, declared.turns.Turns.Turns, Turns.CountsTurns}
+use Rattle.asgi_io.specs.{declared.turns.Turn.Turn, declared.turns.Turns.Turns, Turns.CountsTurns, Turns.row_after}
+use Rattle.asgi_io.specs.declared.turns.Turn.TheVariants as a_turn
+use Rattle.asgi_io.proofs.TurnLemmas.{idle_after-append}
 use Rattle.asgi_apps.proofs.PauseLemmas.{counts_more}
 use Rattle.asgi_request.specs.Reading.{IsWaiting}
 use Rattle.asgi_exchange.specs.{Calls.IsViewOf, Calls.IsExchangeOf, Views.ConnView, Views.empty_conn}
 use Rattle.asgi_run.specs.{AnyHalf.PreservesOn, Limits.IsAtLimit, Limits.IsSettled}
 use Rattle.asgi_conn.specs.{declared.connection.Connection.Connection, Serving.Serves, Standing.InExchange, Standing.IsAt}
-use Rattle.asgi_conn.specs.Standing.{IsCounted, HasRoom, Stands, IsReportOf, http_scene, session_scene}
+use Rattle.asgi_conn.specs.Standing.{IsCounted, HasRoom, Stands, IsReportOf, http_scene, session_scene, step_of}
+use Rattle.asgi_conn.specs.declared.connection.Step.TheVariants as step
 use Rattle.asgi_conn.specs.private.Loop.{HasBegun, IsNext, IsGoing, IsBetween, IsOpen, HasEnded, next_step_of}
 use Rattle.asgi_request.proofs.StandardLemmas.{all_results}
 use Rattle.asgi_conn.proofs.{BetweenLemmas.rests_on, BetweenLemmas.ends_fed_short, LeaveLemmas.left_at, ServeLemmas.rested, SessionLeaveLemmas.ends_after, SessionServeLemmas.ends_connection}
@@ -60,6 +63,12 @@ room_open (place.Http half exchange) tally room goes = (room, λ over. absurd (g
 room_open (place.Ended outcome) tally room goes = tt
 room_open _ tally room goes = room
 
+-- only an idle turn is told as idle
+row_of_idle : (row : ℕ) (turn : Turn) → step_of turn ≡ step.Idle → row_after row turn ≡ row + 1
+row_of_idle row a_turn.Idle is = refl
+row_of_idle row a_turn.Moved is = cc
+row_of_idle row a_turn.Last is = cc
+
 module _ {X : Type 0} {limits : Limits} {before pauses : ℕ} where
   -- one more turn was taken
   pub counted_more : {at later : Place X} {old new : Tally} {after : ℕ} (turn : Turn) → IsCounted limits before pauses at old → IsGoing at → IsGoing later
@@ -72,6 +81,14 @@ module _ {X : Type 0} {limits : Limits} {before pauses : ℕ} where
       let never : later ≡ place.Ended Idle → ⊥ = λ is. subst IsGoing is goes in
       let turned = c.turned ++ turn ∷ [] in
       record { turn_limit = limit ∙ c.turn_limit; idle_limit = row ∙ c.idle_limit; turned = turned; counts = more; at_limit = λ is. absurd (never is); within = rw limit c.within; room = room }
+
+  -- and if it was idle, the row of idle ones is longer by it
+  pub row_more : {at : Place X} {old : Tally} {after turns idle : ℕ} (turn : Turn) → IsCounted limits before pauses at old
+      → ((turned : List Turn) (before : ℕ) → CountsTurns old.turns.turn_limit old.turns.idle_limit turned before pauses old.turns.turns old.turns.idle
+      → CountsTurns old.turns.turn_limit old.turns.idle_limit (turned ++ turn ∷ []) before after turns idle) → step_of turn ≡ step.Idle → idle ≡ old.turns.idle + 1
+  row_more {old = old} turn c counts is =
+      let more = counts_more limits.turns limits.idle_turns _ _ before _ _ _ _ _ _ c.turned turn c.turn_limit c.idle_limit c.counts counts in
+      more.idle_is ∙ idle_after-append 0 c.turned turn ∙ ap (λ n. row_after n turn) (sym c.counts.idle_is) ∙ row_of_idle old.turns.idle turn is
 
   -- it came to another place, with no turn
   counted_at : {at later : Place X} {old new : Tally} → IsCounted limits before pauses at old → new.turns ≡ old.turns → (later ≡ place.Ended Idle → IsAtLimit old.turns)

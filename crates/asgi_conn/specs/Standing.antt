@@ -36,7 +36,8 @@ use Rattle.asgi_run.specs.declared.runner.AppSide.{AppSide}
 use Rattle.asgi_run.specs.Limits.{IsAtLimit, IsSettled}
 use Rattle.asgi_run.specs.Lines.{Transferred}
 use Rattle.asgi_run.specs.Running.{OfEnd, IsOpened}
-use Rattle.asgi_halves.specs.declared.stage.Stage.TheVariants.{Over}
+use Rattle.asgi_halves.specs.declared.stage.Stage.{Stage}
+use Rattle.asgi_halves.specs.declared.stage.Stage.TheVariants.{Over, Cut}
 use Rattle.asgi_halves.specs.declared.wire.Wire.{Wire}
 use Rattle.asgi_halves.specs.contracts.impls.HttpHalfHalf.TheImpl as http_half
 use Rattle.asgi_halves.specs.contracts.impls.WebSocketHalfHalf.TheImpl as session_half
@@ -178,6 +179,18 @@ abbrev pub step_of : Turn → Step
 step_of turn.Moved = step.Moved
 step_of turn.Idle = step.Idle
 step_of turn.Last = step.Moved
+
+-- what a turn counts as that leaves its exchange at this stage
+abbrev pub counts_at : Stage → Turn → Turn
+counts_at (Cut outcome) took = turn.Idle
+counts_at stage took = took
+
+-- What a turn counts as, by where it left the connection: behind a cut it is idle, whatever was dropped in it, until the exchange is over.
+abbrev pub counts_as : {X : Type 0} → Place X → Turn → Turn
+counts_as (place.Between wire) took = took
+counts_as (place.Http half exchange) took = counts_at half.stage took
+counts_as (place.Session half exchange) took = counts_at half.stage took
+counts_as (place.Ended outcome) took = took
 
 -- One turn was taken, and was this: a read between two requests, or one turn of the exchange.
 abbrev pub TakesTurn : {X : Type 0} → (X → Turn → X → Type 0) → LineState → Place X → Turn → LineState → Place X → Type 0

@@ -7,7 +7,7 @@ ghost use Rattle.asgi_halves.specs.Kinds.{ReadsNone};
 ghost use Rattle.asgi_conn.specs.Serving.{Serves};
 ghost use Rattle.asgi_conn.specs.Places as place;
 ghost use Rattle.asgi_conn.specs.Places.{Place, place_of};
-ghost use Rattle.asgi_conn.specs.Standing.{Stands, IsServing, GoesOn, IfOver, IsReportOf, TakesOne, TakesTurn, step_of, exchanges_of};
+ghost use Rattle.asgi_conn.specs.Standing.{Stands, IsServing, GoesOn, IfOver, IsReportOf, TakesOne, TakesTurn, counts_as, step_of, exchanges_of};
 ghost use Rattle.asgi_conn.specs.private.Loop.{IsDue, HasEnded, IsGoing};
 
 use crate::setting::Setting;
@@ -27,7 +27,7 @@ use std::alloc::{AllocGlobal, Global};
 pub enum Step {
     /// Something moved.
     Moved,
-    /// Nothing moved.
+    /// Nothing moved, or only what an exchange that is cut short drops.
     Idle,
     /// The connection has ended, and this is its report.
     Over(Report),
@@ -74,7 +74,8 @@ impl<X> Connection<X> {
 
     /// Takes one turn: reads once between two requests, or takes a turn of both halves of an exchange. What
     /// is to be done before that and takes no turn is done, too: an exchange that is over is ended, and the
-    /// next one begun. If nothing moves, the pause is called.
+    /// next one begun. If nothing moves, the pause is called. So it is while the exchange is cut short, as by a write
+    /// that failed: what its task sends is dropped, and such turns lead to the limit of idle ones.
     ///
     /// Once the connection has ended, it gives its report, again at each later call.
     pub fn turn<A: Application, L: Line, U: Runner<A::Task, Exchange = X>, P: Pause>(
@@ -98,10 +99,12 @@ impl<X> Connection<X> {
             limits setting.now start before (L.state line.old) (P.count pause.old) self.old
             → Serves (A.answers calls.old.app.now) limits setting.now.client.now setting.now.server.now setting.now.state.now start (L.state line.new) before (P.count pause.new) report) }
         ensures ended { IfOver result (λ report. IsReportOf self.new report) }
-        // A turn that goes on takes one of the limit, and is the one that it says. Nothing is read before it.
+        // A turn that goes on takes one of the limit, and is told as what it counts as. Nothing is read before it.
         ensures takes { GoesOn result → TakesOne self.old self.new }
         ensures took { GoesOn result → (turn : Turn) × (was : LineState) × (at : Place X) × ReadsNone (L.state line.old) was
-            × TakesTurn U.takes was at turn (L.state line.new) (place_of self.new) × (result ≡ step_of turn) }
+            × TakesTurn U.takes was at turn (L.state line.new) (place_of self.new) × (result ≡ step_of (counts_as (place_of self.new) turn)) }
+        // One that is told as idle is one more in a row.
+        ensures row { result ≡ Step.Idle → self.new.tally.turns.idle ≡ self.old.tally.turns.idle + 1 }
         // Each exchange that is begun is one call of the application, and there is no other.
         ensures called { length calls.new.scopes.items + exchanges_of self.old ≡ length calls.old.scopes.items + exchanges_of self.new }
         ensures same { calls.new.app.now ≡ calls.old.app.now }
@@ -116,8 +119,9 @@ impl<X> Connection<X> {
         match self.move_on::<A, L, U>(setting, line, runner) {
             None => Step::Over(self.report()),
             Some(turn) => {
-                self.tally.turns.take(turn, pause);
-                step_of(turn)
+                let counted = self.counts_as(turn);
+                self.tally.turns.take(counted, pause);
+                step_of(counted)
             }
         }
     }

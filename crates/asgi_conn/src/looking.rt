@@ -7,7 +7,7 @@ ghost use Rattle.asgi_ws.specs.Lines.{LineState};
 ghost use Rattle.asgi_halves.specs.Kinds.{ReadsNone};
 ghost use Rattle.asgi_conn.specs.Serving.{Serves};
 ghost use Rattle.asgi_conn.specs.Places.{Place, place_of};
-ghost use Rattle.asgi_conn.specs.Standing.{Stands, GoesOn, IfOver, IsReportOf, IsToEnd, StandsAt, TakesOne, TakesTurn, step_of, exchanges_of};
+ghost use Rattle.asgi_conn.specs.Standing.{Stands, GoesOn, IfOver, IsReportOf, IsToEnd, StandsAt, TakesOne, TakesTurn, counts_as, step_of, exchanges_of};
 ghost use Rattle.asgi_conn.specs.private.Loop.{IsGoing, IsOpen};
 
 use crate::connection::{Connection, Step};
@@ -49,7 +49,7 @@ pub(crate) enum Seen {
 }
 
 impl<X> Connection<X> {
-    /// Takes a turn as `turn` does, for a wake-up that may have brought nothing: a turn in which nothing moved is not counted, and
+    /// Takes a turn as `turn` does, for a wake-up that may have brought nothing: a turn that is idle is not counted, and
     /// the pause is not called.
     pub fn look<A: Application, L: Line, U: Runner<A::Task, Exchange = X>, P: Pause>(
         &mut self,
@@ -75,10 +75,10 @@ impl<X> Connection<X> {
         // A turn that moved something takes one of the limit, and one that did not takes none.
         ensures takes { result ≡ Step.Moved → TakesOne self.old self.new }
         ensures rests { result ≡ Step.Idle → (self.new.tally.turns ≡ self.old.tally.turns) × (P.count pause.new ≡ P.count pause.old) }
-        // One turn was taken all the same, and it is told as it was. Only an exchange that is over is told as moved, whatever its turn was.
+        // One turn was taken all the same, and it is told as what it counts as. Only an exchange that is over is told as moved, whatever its turn was.
         ensures took { GoesOn result → (turn : Turn) × (was : LineState) × (at : Place X) × ReadsNone (L.state line.old) was
             × TakesTurn U.takes was at turn (L.state line.new) (place_of self.new)
-            × ((result ≡ step_of turn) ⊎ ((result ≡ Step.Moved) × IsToEnd (place_of self.new))) }
+            × ((result ≡ step_of (counts_as (place_of self.new) turn)) ⊎ ((result ≡ Step.Moved) × IsToEnd (place_of self.new))) }
         // Each exchange that is begun is one call of the application, and there is no other.
         ensures called { length calls.new.scopes.items + exchanges_of self.old ≡ length calls.old.scopes.items + exchanges_of self.new }
         ensures same { calls.new.app.now ≡ calls.old.app.now }
@@ -92,13 +92,16 @@ impl<X> Connection<X> {
         self.go_on(setting, calls, line, runner);
         match self.move_on::<A, L, U>(setting, line, runner) {
             None => Step::Over(self.report()),
-            Some(turn) => match self.seen(turn) {
-                Seen::Nothing => Step::Idle,
-                Seen::Something => {
-                    self.tally.turns.take(turn, pause);
-                    Step::Moved
+            Some(turn) => {
+                let counted = self.counts_as(turn);
+                match self.seen(counted) {
+                    Seen::Nothing => Step::Idle,
+                    Seen::Something => {
+                        self.tally.turns.take(counted, pause);
+                        Step::Moved
+                    }
                 }
-            },
+            }
         }
     }
 

@@ -2,12 +2,13 @@
 ghost use Rattle.std.specs.Prelude.{◌≡◌, Some, None, IfSome, IsTrue, IsFalse};
 ghost use Rattle.asgi_conn.specs.Places as place;
 ghost use Rattle.asgi_conn.specs.Places.{place_of};
-ghost use Rattle.asgi_conn.specs.Standing.{IsToEnd};
+ghost use Rattle.asgi_conn.specs.Standing.{IsToEnd, counts_as, counts_at};
 ghost use Rattle.asgi_conn.specs.private.Loop.{IsBetween, IsFree, IsGoing, IsOpen, IsOver, IsDueOrBetween, HasEnded};
 
 use crate::connection::Connection;
 use asgi_conversation::Outcome;
-use asgi_halves::WebSocketHalf;
+use asgi_halves::{Stage, WebSocketHalf};
+use asgi_io::Turn;
 use asgi_run::Half;
 use std::alloc::Global;
 use std::mem;
@@ -63,6 +64,22 @@ impl<X> Connection<X> {
         }
     }
 
+    /// What a turn that has led here counts as. An exchange that is cut short only drops what its task sends.
+    pub(crate) fn counts_as(&self, turn: Turn) -> Turn
+        ensures { result ≡ counts_as (place_of self.now) turn }
+    {
+        match &self.exchange {
+            Some(_) => match &self.session {
+                None => counts_at(self.half.stage, turn),
+                Some(session) => counts_at(session.stage, turn),
+            },
+            None => match &self.ended {
+                None => turn,
+                Some(_) => turn,
+            },
+        }
+    }
+
     /// Goes to the end, from where no exchange is.
     pub(crate) fn end_with(&mut self, outcome: Outcome)
         requires { IsFree (place_of self.old) }
@@ -70,6 +87,18 @@ impl<X> Connection<X> {
         ensures tally { self.new.tally ≡ self.old.tally }
     {
         self.ended = Some(outcome);
+    }
+}
+
+/// What a turn counts as that leaves its exchange at this stage.
+fn counts_at(stage: Stage, turn: Turn) -> Turn
+    ensures { result ≡ counts_at stage turn }
+{
+    match stage {
+        Stage::Running => turn,
+        Stage::Ending(_) => turn,
+        Stage::Cut(_) => Turn::Idle,
+        Stage::Over(_) => turn,
     }
 }
 

@@ -35,6 +35,6 @@ returns-in-Something-clause-stands g c limits start before s =
     let m = c.go_on.ensures.stands limits start before (g.P.Pause.count c.args.pause.now) s in
     record {
       serving = lemma.turned refl refl (c.move_on.ensures.serves c.args.calls.now.app.now limits start m.serving);
-      counted = lemma.counted_more c.in-Some.turn (rw (← c.move_on.ensures.tally) at m.counted) c.in-Some.ensures.some.0 c.in-Some.ensures.some.1
+      counted = lemma.counted_more c.counts_as-counted.result (rw (← c.move_on.ensures.tally) at m.counted) c.in-Some.ensures.some.0 c.in-Some.ensures.some.1
           refl c.take.ensures.one c.take.ensures.turn_limit c.take.ensures.idle_limit c.take.ensures.counts;
     }
