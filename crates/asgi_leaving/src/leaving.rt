@@ -1,46 +1,49 @@
-//! A line whose session can be told that its server goes away.
-ghost use Rattle.std.specs.Prelude.{◌≡◌, ◌++◌, ◌∷◌, [], None, IsTrue, IsFalse, false};
+//! A line that asks for its client by a ping, and whose session can be told that it ends.
+ghost use Rattle.std.specs.Prelude.{◌≡◌, ◌⊎◌, ◌++◌, ◌∷◌, [], None};
 ghost use Rattle.asgi_ws.specs.Sessions.{count_after, has_failed, is_failed};
 ghost use Rattle.asgi_ws.specs.Sides.{WriteSide, ReadSide};
 ghost use Rattle.asgi_ws.specs.declared.messages.Got.{Got};
 ghost use Rattle.asgi_ws.specs.declared.messages.Put.{Put};
 ghost use Rattle.asgi_ws.specs.declared.messages.Call.TheVariants as call;
 ghost use Rattle.asgi_ws.specs.declared.messages.SentMessage.TheVariants as item;
-ghost use Rattle.asgi_leaving.specs.Leaving.{Tells, told_calls};
+ghost use Rattle.asgi_leaving.specs.declared.notice.Farewell.{Farewell};
+ghost use Rattle.asgi_leaving.specs.declared.notice.Notice.{Notice};
+ghost use Rattle.asgi_leaving.specs.declared.notice.Notice.TheVariants.{Close, Nothing, Ping};
+ghost use Rattle.asgi_leaving.specs.Leaving.{Tells, TellsIdle, told_call, told_calls};
+ghost use Rattle.asgi_leaving.specs.Notices.{IsClose, code_of};
 
+use crate::notice::{Farewell, Notice};
 use asgi_io::{Counts, History, Reads};
 use asgi_types::{Payload, Reason};
-use asgi_ws::{Got, Line, Messages, Msg, Put};
+use asgi_ws::{Got, Line, Messages, Msg, Pings, Put};
 use std::cell::Cell;
 use std::io;
 
-/// The code of a close by an endpoint that goes away, as a server that ends (RFC 6455, section 7.4.1).
-const GOING_AWAY: u16 = 1001;
-
-/// The line below, but for one thing: once it was told that its server goes away, the first read of a message that finds none
-/// gives a close with 1001 (RFC 6455, section 7.4.1). So what the client sent before is heard first, and what the application
-/// says meanwhile is still sent. `close_session` then tells the client.
+/// The line below, but for what is due by its server (`owe`), which the first read of a message that finds none tells. If a ping is
+/// due, the client gets one, and no other until it is heard (RFC 6455, section 5.5.2). If a close is due, that read gives a close with
+/// its code (section 7.4.1). So what the client sent before is heard first, and what the application says meanwhile is still sent.
+/// `close_session` then tells the client.
 #[derive(Drop)]
 pub struct LeavingLine<L> {
     line: L,
-    // The server goes away.
-    leaves: Cell<bool>,
-    // The close was given.
-    has_told: bool,
-    // For each call of the session, whether its answer is not that of the line below.
-    changed: History<bool>,
+    // What is due.
+    due: Cell<Notice>,
+    // What was told, since the client was heard.
+    told: Notice,
+    // For each call of the session the close that it gave in the place of the answer of the line below, if it did.
+    changed: History<Option<Farewell>>,
 }
 
 impl<L> LeavingLine<L> {
-    /// That of a server that stays.
+    /// Nothing is due.
     pub fn new(line: L) -> Self
         ensures line { result.line ≡ line }
-        ensures nothing { (result.changed.items ≡ []) × (result.has_told ≡ false) }
+        ensures nothing { (result.changed.items ≡ []) × (result.told ≡ Nothing) }
     {
         LeavingLine {
             line,
-            leaves: Cell::new(false),
-            has_told: false,
+            due: Cell::new(Notice::Nothing),
+            told: Notice::Nothing,
             changed: History::new(),
         }
     }
@@ -52,60 +55,101 @@ impl<L> LeavingLine<L> {
         &self.line
     }
 
-    /// From here on the server goes away.
-    pub fn leave(&self) {
-        self.leaves.set(true);
+    /// From here on this is due, in the place of what was before. A close for want of an answer is told only to a session whose client
+    /// was asked, and has not been heard since.
+    pub fn owe(&self, notice: Notice) {
+        self.due.set(notice);
+    }
+}
+
+impl<L> LeavingLine<L> {
+    /// One more call of the session was made, which gave this close, or the answer of the line below.
+    fn count(&mut self, changed: Option<Farewell>)
+        ensures one { self.new.changed.items ≡ self.old.changed.items ++ changed ∷ [] }
+        ensures stays { self.new ≡ record self.old { changed = self.new.changed } }
+    {
+        self.changed = History::with(&self.changed, &changed);
     }
 }
 
 impl<L: Messages> LeavingLine<L> {
-    /// Tells the client of a session that was told that its server goes away: a close with 1001, which is one more call of the
-    /// session. It is for a session that has ended, since nothing is sent after a close (RFC 6455, section 5.5.1). One that the
-    /// application or the client has closed gets no other: the message layer below sends a close once, and nothing after it.
+    /// Tells the client of a session that was told to end: a close with the same code, which is one more call of the session. It is for
+    /// a session that has ended, since nothing is sent after a close (RFC 6455, section 5.5.1). One that the application or the client
+    /// has closed gets no other: the message layer below sends a close once, and nothing after it.
     pub fn close_session(&mut self)
-        ensures told { IsTrue self.old.has_told → (put : Put) × (L.calls self.new.line ≡ L.calls self.old.line ++ call.Send (item.Close 1001 []) put ∷ [])
-            × (told_calls self.new.changed.items (L.calls self.new.line) ≡ told_calls self.old.changed.items (L.calls self.old.line) ++ call.Send (item.Close 1001 []) put ∷ []) }
-        ensures untold { IsFalse self.old.has_told → self.new ≡ self.old }
+        ensures told { (why : Farewell) → self.old.told ≡ Close why → (put : Put)
+            × (L.calls self.new.line ≡ L.calls self.old.line ++ call.Send (item.Close (code_of why) []) put ∷ [])
+            × (told_calls self.new.changed.items (L.calls self.new.line) ≡ told_calls self.old.changed.items (L.calls self.old.line) ++ call.Send (item.Close (code_of why) []) put ∷ []) }
+        ensures untold { ¬ (IsClose self.old.told) → self.new ≡ self.old }
         ensures stays { self.new ≡ record self.old { line = self.new.line; changed = self.new.changed } }
     {
-        if !self.has_told {
+        let Notice::Close(why) = self.told else {
             return;
-        }
-        let _put = self.line.send_close(GOING_AWAY, no_reason());
-        self.count(false);
+        };
+        let _put = self.line.send_close(why.code(), no_reason());
+        self.count(None);
     }
+}
 
-    /// What the session is told, where this was found.
-    fn tell(&mut self, found: Got) -> Got
-        ensures tells { Tells self.old.has_told self.new.has_told found result }
-        ensures line { self.new.line ≡ self.old.line }
-        ensures changed { self.new.changed.items ≡ self.old.changed.items }
+impl<L: Pings> LeavingLine<L> {
+    /// Tells what is to be told where this is due, and this was found. The close, if that is what it tells.
+    fn tell(&mut self, due: Notice, found: Got) -> (Got, Option<Farewell>)
+        ensures tells { Tells due self.old.told self.new.told found result.0 }
+        ensures changed { told_call result.1 (call.Read found) ≡ call.Read result.0 }
+        ensures session { (L.calls self.new.line ≡ L.calls self.old.line) × (L.leftover self.new.line ≡ L.leftover self.old.line) }
+        ensures counts { L.failed self.new.line ≡ L.failed self.old.line }
+        ensures text { (L.remaining self.new.line ≡ L.remaining self.old.line) × (L.written self.new.line ≡ L.written self.old.line)
+            × (L.Reads.answers self.new.line ≡ L.Reads.answers self.old.line) × (L.Counts.answers self.new.line ≡ L.Counts.answers self.old.line) }
+        ensures same { self.new.changed ≡ self.old.changed }
     {
         match found {
-            Got::Idle => self.tell_idle(),
-            found => found,
+            Got::Message(message) => {
+                self.told = self.told.once_heard();
+                (Got::Message(message), None)
+            }
+            Got::Idle => self.tell_idle(due.after(self.told)),
+            Got::Ended => (Got::Ended, None),
+            Got::Failed => (Got::Failed, None),
+            Got::NoMemory => (Got::NoMemory, None),
         }
     }
 
-    /// What the session is told, where nothing was found.
-    fn tell_idle(&mut self) -> Got
-        ensures tells { Tells self.old.has_told self.new.has_told Got.Idle result }
-        ensures line { self.new.line ≡ self.old.line }
-        ensures changed { self.new.changed.items ≡ self.old.changed.items }
+    /// Tells this, where nothing was found. The close, if that is what it tells.
+    fn tell_idle(&mut self, next: Notice) -> (Got, Option<Farewell>)
+        ensures tells { TellsIdle next self.old.told self.new.told result.0 }
+        ensures changed { told_call result.1 (call.Read Got.Idle) ≡ call.Read result.0 }
+        ensures session { (L.calls self.new.line ≡ L.calls self.old.line) × (L.leftover self.new.line ≡ L.leftover self.old.line) }
+        ensures counts { L.failed self.new.line ≡ L.failed self.old.line }
+        ensures text { (L.remaining self.new.line ≡ L.remaining self.old.line) × (L.written self.new.line ≡ L.written self.old.line)
+            × (L.Reads.answers self.new.line ≡ L.Reads.answers self.old.line) × (L.Counts.answers self.new.line ≡ L.Counts.answers self.old.line) }
+        ensures same { self.new.changed ≡ self.old.changed }
     {
-        if self.has_told || !self.leaves.get() {
-            return Got::Idle;
+        match next {
+            Notice::Nothing => (Got::Idle, None),
+            Notice::Ping => {
+                self.ask();
+                (Got::Idle, None)
+            }
+            Notice::Close(why) => {
+                self.told = Notice::Close(why);
+                let close = Msg::Close(Some((why.code(), no_reason())));
+                (Got::Message(close), Some(why))
+            }
         }
-        self.has_told = true;
-        Got::Message(Msg::Close(Some((GOING_AWAY, no_reason()))))
     }
 
-    /// One more call of the session was made, and its answer is that of the line below, or not.
-    fn count(&mut self, is_changed: bool)
-        ensures one { self.new.changed.items ≡ self.old.changed.items ++ is_changed ∷ [] }
-        ensures stays { self.new ≡ record self.old { changed = self.new.changed } }
+    /// Sends a ping. If it can't be sent the client was not asked.
+    fn ask(&mut self)
+        ensures asks { (self.new.told ≡ self.old.told) ⊎ (self.new.told ≡ Ping) }
+        ensures session { (L.calls self.new.line ≡ L.calls self.old.line) × (L.leftover self.new.line ≡ L.leftover self.old.line) }
+        ensures counts { L.failed self.new.line ≡ L.failed self.old.line }
+        ensures text { (L.remaining self.new.line ≡ L.remaining self.old.line) × (L.written self.new.line ≡ L.written self.old.line)
+            × (L.Reads.answers self.new.line ≡ L.Reads.answers self.old.line) × (L.Counts.answers self.new.line ≡ L.Counts.answers self.old.line) }
+        ensures same { self.new.changed ≡ self.old.changed }
     {
-        self.changed = History::with(&self.changed, &is_changed);
+        if self.line.ping() == Put::Done {
+            self.told = Notice::Ping;
+        }
     }
 }
 
@@ -165,7 +209,7 @@ impl<L: Line> Counts for LeavingLine<L> {
     }
 }
 
-impl<L: Line> Messages for LeavingLine<L> {
+impl<L: Pings> Messages for LeavingLine<L> {
     ghost calls = { λ w. told_calls w.changed.items (L.calls w.line) };
 
     ghost coming = { λ _. None };
@@ -173,8 +217,9 @@ impl<L: Line> Messages for LeavingLine<L> {
     ghost leftover = { λ w. L.leftover w.line };
 
     fn read_message(&mut self) -> Got
-        // The line below was read once, and this is told of what it found.
-        ensures tells { (found : Got) × (L.calls self.new.line ≡ L.calls self.old.line ++ call.Read found ∷ []) × Tells self.old.has_told self.new.has_told found result }
+        // The line below was read once, and this is told of what it found, by what was due: nothing is known of what a cell contains.
+        ensures tells { (found : Got) × (due : Notice) × (L.calls self.new.line ≡ L.calls self.old.line ++ call.Read found ∷ [])
+            × Tells due self.old.told self.new.told found result }
         ensures told { told_calls self.new.changed.items (L.calls self.new.line) ≡ told_calls self.old.changed.items (L.calls self.old.line) ++ call.Read result ∷ [] }
         ensures counts { L.failed self.new.line ≡ count_after (L.failed self.old.line) (is_failed result) }
         ensures shut { L.leftover self.old.line ≡ None → result ≡ Got.Failed }
@@ -183,15 +228,15 @@ impl<L: Line> Messages for LeavingLine<L> {
             × (L.Reads.answers self.new.line ≡ L.Reads.answers self.old.line) × (L.Counts.answers self.new.line ≡ L.Counts.answers self.old.line) }
     {
         let found = self.line.read_message();
-        let had_told = self.has_told;
-        let told = self.tell(found);
-        self.count(self.has_told != had_told);
+        let due = self.due.get();
+        let (told, changed) = self.tell(due, found);
+        self.count(changed);
         told
     }
 
     fn send_message(&mut self, payload: Payload) -> Put
         ensures sends { L.calls self.new.line ≡ L.calls self.old.line ++ call.Send (item.Payload payload) result ∷ [] }
-        ensures untold { self.new.has_told ≡ self.old.has_told }
+        ensures untold { self.new.told ≡ self.old.told }
         ensures told { told_calls self.new.changed.items (L.calls self.new.line) ≡ told_calls self.old.changed.items (L.calls self.old.line) ++ call.Send (item.Payload payload) result ∷ [] }
         ensures counts { L.failed self.new.line ≡ count_after (L.failed self.old.line) (has_failed result) }
         ensures shut { L.leftover self.old.line ≡ None → result ≡ Put.Failed }
@@ -200,13 +245,13 @@ impl<L: Line> Messages for LeavingLine<L> {
             × (L.Reads.answers self.new.line ≡ L.Reads.answers self.old.line) × (L.Counts.answers self.new.line ≡ L.Counts.answers self.old.line) }
     {
         let put = self.line.send_message(payload);
-        self.count(false);
+        self.count(None);
         put
     }
 
     fn send_close(&mut self, code: u16, reason: Reason) -> Put
         ensures sends { L.calls self.new.line ≡ L.calls self.old.line ++ call.Send (item.Close code reason) result ∷ [] }
-        ensures untold { self.new.has_told ≡ self.old.has_told }
+        ensures untold { self.new.told ≡ self.old.told }
         ensures told { told_calls self.new.changed.items (L.calls self.new.line) ≡ told_calls self.old.changed.items (L.calls self.old.line) ++ call.Send (item.Close code reason) result ∷ [] }
         ensures counts { L.failed self.new.line ≡ count_after (L.failed self.old.line) (has_failed result) }
         ensures shut { L.leftover self.old.line ≡ None → result ≡ Put.Failed }
@@ -215,12 +260,12 @@ impl<L: Line> Messages for LeavingLine<L> {
             × (L.Reads.answers self.new.line ≡ L.Reads.answers self.old.line) × (L.Counts.answers self.new.line ≡ L.Counts.answers self.old.line) }
     {
         let put = self.line.send_close(code, reason);
-        self.count(false);
+        self.count(None);
         put
     }
 }
 
-impl<L: Line> Line for LeavingLine<L> {
+impl<L: Pings> Line for LeavingLine<L> {
     ghost use Rattle.asgi_ws.specs.Lines.{state_of};
     ghost use Rattle.std.specs.Prelude.{refl};
     ghost use Rattle.asgi_ws.specs.Sides.{read_side, write_side, session_beside};

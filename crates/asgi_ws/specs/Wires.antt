@@ -119,6 +119,10 @@ payload_step payload conn = write_step conn (content_of_payload payload)
 abbrev pub closing_step : ℕ → List ℕ → Connection → Result Effect FrameError
 closing_step code reason conn = close_step conn (Some (close_code_of code, reason))
 
+-- and for a ping with no data (RFC 6455, section 5.5.2)
+abbrev pub ping_step : Connection → Result Effect FrameError
+ping_step conn = write_step conn (wire.ping [])
+
 -- the code that tells a client why its session fails (RFC 6455, sections 7.1.7 and 7.4.1): 1002 for a fault of the protocol, 1007 for text that is
 -- not UTF-8, 1009 for what is too big; none where the stream or memory is at fault
 abbrev pub failing_code : Result Message Error → Option CloseCode

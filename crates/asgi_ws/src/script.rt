@@ -11,6 +11,7 @@ use crate::line::Line;
 use crate::lists::{Lists, ScriptRead, is_allowed};
 use crate::messages::{Got, Messages, Msg, Put, SentMessage};
 use crate::pieces::{Pieces, ScriptBytes};
+use crate::ping::Pings;
 use crate::tally::Tally;
 use asgi_io::{Counts, Reads};
 use asgi_types::{Payload, Reason};
@@ -31,6 +32,7 @@ pub struct Script {
     leftover: Option<Vec<u8>>,
     tally: Tally,
     lists: Lists,
+    pings: u64,
 }
 
 impl Script {
@@ -53,6 +55,7 @@ impl Script {
             leftover: None,
             tally: Tally::new(),
             lists: Lists::new(alloc),
+            pings: 0,
         }
     }
 
@@ -97,6 +100,13 @@ impl Script {
         ensures { result.now ≡ messages_in self.now.lists.calls.items }
     {
         self.lists.received.as_slice()
+    }
+
+    /// How many pings were sent.
+    pub fn pings(&self) -> u64
+        ensures { result ≡ self.now.pings }
+    {
+        self.pings
     }
 
     /// The messages and closes that were sent, the oldest first.
@@ -274,4 +284,24 @@ impl Line for Script {
     ghost writes_stay = { λ old new same. write_side same };
 
     ghost session_stays = { λ old new same. session_beside same refl refl };
+}
+
+impl Pings for Script {
+    ghost use Rattle.std.specs.Prelude.{◌+◌};
+    ghost use Rattle.asgi_ws.specs.declared.messages.Put.TheVariants as put;
+
+    fn ping(&mut self) -> Put
+        ensures one { result ≡ put.Done → self.new.pings ≡ self.old.pings + 1 }
+        ensures shut { self.old.leftover ≡ None → result ≡ put.Failed }
+        ensures stays { self.new ≡ record self.old { pings = self.new.pings } }
+    {
+        if self.leftover.is_none() {
+            return Put::Failed;
+        }
+        let Some(pings) = self.pings.checked_add(1) else {
+            return Put::Failed;
+        };
+        self.pings = pings;
+        Put::Done
+    }
 }

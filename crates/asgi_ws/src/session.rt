@@ -1,6 +1,6 @@
 //! The calls of the message layer, on a session that may not have begun.
 ghost use Rattle.std.specs.Prelude.{◌≡◌};
-ghost use Rattle.asgi_ws.specs.Wires.{AnswersRead, AnswersBy, IsSessionOn, IsSent, IfDone, IfFailed, IfNoMemory, IsRefused, IsPutOf, TellsWhy, failing_code, if_stands, payload_step, closing_step};
+ghost use Rattle.asgi_ws.specs.Wires.{AnswersRead, AnswersBy, IsSessionOn, IsSent, IfDone, IfFailed, IfNoMemory, IsRefused, IsPutOf, TellsWhy, failing_code, if_stands, payload_step, closing_step, ping_step};
 
 use crate::convert::{answer_to, message_with};
 use crate::messages::{Got, Put};
@@ -9,7 +9,8 @@ use crate::tap::Tap;
 use asgi_types::{Payload, Reason};
 use std::alloc::Global;
 use tungstenite::{
-    CloseCode, CloseFrame, Error, Message, NoMask, Role, Utf8Bytes, WebSocket, WebSocketConfig,
+    Bytes, CloseCode, CloseFrame, Error, Message, NoMask, Role, Utf8Bytes, WebSocket,
+    WebSocketConfig,
 };
 
 pub type Session<S> = WebSocket<Tap<S>, NoMask>;
@@ -127,6 +128,18 @@ pub fn close<S: Stream + Drop>(
         code: CloseCode::from(code),
         reason: text,
     })))
+}
+
+/// Sends a ping with no data (RFC 6455, section 5.5.2). The result is as for `send`.
+pub fn ping<S: Stream + Drop>(session: &mut Option<Session<S>>) -> Put
+    ensures sent { IfDone result (IsSent (λ t. S.contents t.stream) session.old session.new ping_step) }
+    ensures refused { IfFailed result (IsRefused (λ t. S.contents t.stream) session.old session.new ping_step) }
+    ensures memory { IfNoMemory result (session.new ≡ session.old) }
+{
+    let Some(socket) = session else {
+        return Put::Failed;
+    };
+    put_of(socket.send(Message::Ping(Bytes::from_static(b""))))
 }
 
 fn put_of(outcome: Result<(), Error>) -> Put

@@ -15,7 +15,8 @@ ghost use Rattle.asgi_ws.specs.Wires.{AnswersRead, told_by, leftover_by, held_by
 use crate::calls::{Sending, note_read, note_send};
 use crate::line::Line;
 use crate::messages::{Call, Got, Messages, Put, SentMessage};
-use crate::session::{Session, close, read, send, session_on};
+use crate::ping::Pings;
+use crate::session::{Session, close, ping, read, send, session_on};
 use crate::stream::Stream;
 use crate::tally::Tally;
 use asgi_io::{Counts, History, Reads};
@@ -332,4 +333,17 @@ impl<S: Stream + Drop> Line for Wired<S> {
     ghost writes_stay = { λ old new same. write_side same };
 
     ghost session_stays = { λ old new same. session_beside same refl refl };
+}
+
+impl<S: Stream + Drop> Pings for Wired<S> {
+    ghost use Rattle.asgi_ws.specs.Wires.{IsSent, IfDone, IfFailed, IfNoMemory, IsRefused, ping_step};
+
+    fn ping(&mut self) -> Put
+        ensures sent { IfDone result (IsSent (λ t. S.contents t.stream) self.old.session self.new.session ping_step) }
+        ensures refused { IfFailed result (IsRefused (λ t. S.contents t.stream) self.old.session self.new.session ping_step) }
+        ensures memory { IfNoMemory result (self.new.session ≡ self.old.session) }
+        ensures stays { self.new ≡ record self.old { session = self.new.session } }
+    {
+        ping(&mut self.session)
+    }
 }

@@ -1,4 +1,5 @@
-//! Tests of `asgi_ws` on its public calls: responses to opening handshakes, and lines that carry messages.
+//! Tests of `asgi_ws` and `asgi_leaving` on their public calls: responses to opening handshakes, lines that carry messages, and how a
+//! session is told to end.
 #![tactic(auto)]
 
 #[cfg(test)]
@@ -7,6 +8,8 @@ mod calls;
 mod handshakes;
 #[cfg(test)]
 mod scripted;
+#[cfg(test)]
+mod told;
 #[cfg(test)]
 mod wire;
 #[cfg(test)]
