@@ -1,5 +1,5 @@
 -- What a turn of a named seat did.
-use Rattle.std.specs.Prelude.{◌≡◌, ⊤, ℕ, List, Option, Some, None, IsSomeAnd, slice_set}
+use Rattle.std.specs.Prelude.{◌≡◌, ◌+◌, ⊤, ℕ, List, Option, Some, None, IsSomeAnd, slice_set}
 use Rattle.asgi_conn.specs.declared.connection.Step.{Step}
 use Rattle.asgi_conn.specs.declared.connection.Step.TheVariants as step
 use Rattle.asgi_conn.specs.Standing.{IsReportOf, TakesOne}
@@ -31,9 +31,9 @@ IfOver Moved P = ⊤
 IfOver Idle P = ⊤
 IfOver (Over end) P = P end
 
--- A turn in which nothing moved is counted at a tick. After a wake-up neither it nor a pause is.
+-- An idle turn is counted at a tick, and is one more in a row. After a wake-up neither it nor a pause is.
 abbrev pub CountsIdle : {X L : Type 0} → Cause → Seat X L → Seat X L → Type 0
-CountsIdle Tick was is = TakesOne was.connection is.connection
+CountsIdle Tick was is = TakesOne was.connection is.connection × (is.connection.tally.turns.idle ≡ was.connection.tally.turns.idle + 1)
 CountsIdle Wake was is = (is.connection.tally.turns ≡ was.connection.tally.turns) × (is.pause.count ≡ was.pause.count)
 
 -- From what the seat had to what it has: nobody sits there; or the connection took one turn, which is counted if something moved, or

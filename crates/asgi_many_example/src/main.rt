@@ -1,4 +1,4 @@
-//! Many connections in one thread: `asgi_many_example ADDRESS SEATS COUNT APP [TICK]`.
+//! Many connections in one thread: `asgi_many_example ADDRESS SEATS COUNT APP [TICK [HELD]]`.
 #![tactic(auto)]
 
 mod sums;
@@ -14,13 +14,13 @@ use std::time::Duration;
 use sums::Sums;
 use words::{App, Words, usage, words_of};
 
-/// For how many ticks in a row a client may take nothing of what waits for it.
+/// For how many ticks bytes may wait for a client to take them, and one more for each `LEAST` that it takes meanwhile.
 const PATIENCE: u32 = 30;
 
-/// How many bytes of a head or a body have to come in a tick in which some do.
+/// For how many bytes a client that sends a request, or takes its response, has one tick more.
 const LEAST: u64 = 64;
 
-/// For how many ticks in a row fewer may come.
+/// How many ticks a client may take for a request, and one more for each `LEAST` bytes of it.
 const SLOW: u32 = 60;
 
 /// For how many ticks exchanges and sessions go on once the server is to end.
@@ -28,6 +28,12 @@ const LEAVE: u32 = 30;
 
 /// After how many silent ticks a connection between two requests gives its seat to a newcomer.
 const GIVE_WAY: u32 = 5;
+
+/// After how many silent ticks the client of a session is asked by a ping.
+const PING: u32 = 20;
+
+/// How many ticks it has to answer.
+const PONG: u32 = 20;
 
 /// How long a client is read after its answer: for 30 ticks, 5 without a byte, or 64 MiB.
 const LINGER: Linger = Linger {
@@ -64,6 +70,9 @@ fn serve<A: Application>(rt: &HostRuntime, words: &Words, app: &A) -> io::Result
         slow: SLOW,
         leave: LEAVE,
         give_way: GIVE_WAY,
+        held: words.held,
+        ping: PING,
+        pong: PONG,
         linger: LINGER,
     };
     let mut reactor = SocketReactor::open(rt, rt.alloc(), words.address, &numbers, None)?;

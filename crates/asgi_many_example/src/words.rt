@@ -22,6 +22,8 @@ pub struct Words {
     pub app: App,
     /// In milliseconds.
     pub tick: u64,
+    /// How many bytes may be held for all clients.
+    pub held: u64,
 }
 
 /// The words after the program's name, if each is there and is one.
@@ -35,12 +37,17 @@ pub fn words_of<H: Env + AllocGlobal>(rt: &H) -> Option<Words> {
         Some(word) => word.parse::<u64>().ok()?,
         None => 1_000,
     };
+    let held = match words.next() {
+        Some(word) => word.parse::<u64>().ok()?,
+        None => u64::MAX,
+    };
     Some(Words {
         address,
         seats,
         count,
         app,
         tick,
+        held,
     })
 }
 
@@ -57,7 +64,7 @@ fn app_named(name: &str) -> Option<App> {
 pub fn usage<W: Write>(out: &mut W) -> ExitCode {
     match writeln!(
         out,
-        "usage: asgi_many_example ADDRESS SEATS COUNT APP [TICK]"
+        "usage: asgi_many_example ADDRESS SEATS COUNT APP [TICK [HELD]]"
     ) {
         Ok(()) => ExitCode::from(2),
         Err(_) => ExitCode::from(5),

@@ -9,9 +9,10 @@ use crate::lines::newcomer;
 use asgi_apps::{Application, Hello};
 use asgi_conn::{Calls, Host, Inline, Line as AnyLine, Outcome, Runner};
 use asgi_fakes::texts::GET;
-use asgi_fakes::{Memory, Never, line_of};
+use asgi_fakes::{GONE, Gone, Memory, Never, STREAM, gone_line, line_of};
 use asgi_many::{Cause, Ended, Newcomer, Table, Turned};
 use asgi_types::{Limits, State};
+use asgi_ws::Script;
 use futures::task::{Doorbell, Solo};
 use std::alloc::AllocGlobal;
 use std::io;
@@ -218,5 +219,71 @@ fn are_given_up_inline<H: Host>(rt: &H) -> io::Result<bool> {
 #[test]
 fn silent_seats_are_given_up_by_their_own_turns(rt: HostRuntime) -> Result<(), Fail> {
     assert!(rt; are_given_up_inline(&rt)?);
+    Ok(())
+}
+
+/// Whether it ended by a write that failed so, and five ticks after that.
+fn is_left<L>(end: &Option<Ended<L>>, out: usize) -> bool {
+    let Some(end) = end else {
+        return false;
+    };
+    let ended = (end.report.outcome, end.report.exchanges) == (Outcome::WriteFailed(out), 1);
+    ended && (end.report.idle, end.pauses) == (5, 5)
+}
+
+/// Whether a stream whose client goes is given up after five ticks, however often it was woken.
+fn take_turns_of_stream<X, A: Application, L: AnyLine + Drop, U: Runner<A::Task, Exchange = X>>(
+    table: &mut Table<X, L>,
+    state: &State,
+    calls: &mut Calls<'_, A>,
+    runner: &mut U,
+    at: usize,
+    out: usize,
+) -> bool
+    requires { (came : List (Newcomer L)) × (ended : List (Option (Ended L)))
+        × Holds A.Task.answers U.Pipes.Conn.ConnEnd U.Pipes.App.AppEnd U.conn U.began (A.answers calls.old.app.now) L.state state.now came table.old ended }
+{
+    let woken = stays(table, state, calls, runner, at, Cause::Wake, 50);
+    let early = stays(table, state, calls, runner, at, Cause::Tick, 5);
+    let end = turns(table, state, calls, runner, at, Cause::Tick, 1);
+    woken && early && is_left(&end, out)
+}
+
+/// The same of the only one that has come.
+fn is_left_by<H: Host, X: Drop, A: Application, U: Runner<A::Task, Exchange = X>>(
+    rt: &H,
+    app: &A,
+    runner: &mut U,
+    row: &Gone,
+) -> io::Result<bool> {
+    let one = Newcomer {
+        line: gone_line(rt, row)?,
+        client: None,
+        server: None,
+    };
+    let state = State::new(rt.alloc());
+    let mut calls = Calls::of(app);
+    let mut limits = Limits::usual();
+    limits.idle_turns = 5;
+    let mut table = table_of::<X, A, Script, U>(rt.alloc(), &limits, 1, &state, &calls)?;
+    let Ok(at) = seat_of::<X, A, Script, U>(&mut table, &state, &calls, one) else {
+        return Ok(false);
+    };
+    Ok(take_turns_of_stream(&mut table, &state, &mut calls, runner, at, row.2))
+}
+
+fn is_left_inline<H: Host>(rt: &H, row: &Gone) -> io::Result<bool> {
+    let solo = Solo::new(rt, Doorbell::spinning())?;
+    let mut runner = Inline::new(solo.begin());
+    let left = is_left_by(rt, &STREAM, &mut runner, row);
+    runner.end();
+    left
+}
+
+#[test]
+fn a_stream_ends_by_ticks_once_its_client_has_gone(rt: HostRuntime) -> Result<(), Fail> {
+    for (place, row) in GONE.iter().enumerate() {
+        assert!(rt; is_left_inline(&rt, row)?, "row {place}");
+    }
     Ok(())
 }

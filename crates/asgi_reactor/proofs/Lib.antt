@@ -1,3 +1,4 @@
 pub mod CountLemmas
 pub mod DrainLemmas
 pub mod HeldLemmas
+pub mod TicketLemmas

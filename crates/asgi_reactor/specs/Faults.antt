@@ -6,7 +6,10 @@ use Rattle.std.specs.IoError.{raw_os_error, error_kind}
 use Rattle.std.specs.declared.io.Error.{Error}
 use Rattle.std.specs.declared.io.ErrorKind.{ErrorKind}
 use Rattle.std.specs.declared.io.ErrorKind.TheVariants as kind
+use Rattle.asgi_io.specs.Answers.{passes}
 use Rattle.asgi_reactor.specs.declared.faults.Fault.{Fault}
+use Rattle.asgi_reactor.specs.declared.quota.Ticketer.{Ticketer}
+use Rattle.asgi_reactor.specs.Shares.{FoundSpent}
 use Rattle.asgi_reactor.specs.declared.faults.Fault.TheVariants.{NoneNow, Lost, Short, Lasting}
 
 -- no connection is there: EAGAIN
@@ -43,11 +46,21 @@ abbrev pub fault_of : Option ℤ → ErrorKind → Fault
 fault_of (Some code) of_kind = fault_of_code code
 fault_of None of_kind = fault_of_kind of_kind
 
+-- whether a write that failed so may be tried again (send(2)): memory for it is short, it would block, or it was interrupted
+abbrev pub may_pass_by : Fault → ErrorKind → Bool
+may_pass_by Short of_kind = true
+may_pass_by NoneNow of_kind = passes of_kind
+may_pass_by Lost of_kind = passes of_kind
+may_pass_by Lasting of_kind = passes of_kind
+
+abbrev pub may_pass : Option ℤ → ErrorKind → Bool
+may_pass code of_kind = may_pass_by (fault_of code of_kind) of_kind
+
 -- the listener has failed for good, with this error of the system
 abbrev pub HasFailed : Option Error → Type 0
 HasFailed why = IsSomeAnd why (λ e. fault_of (raw_os_error e) (error_kind e) ≡ Lasting)
 
--- Why no connection will be accepted any more: all that were to be have been, the listener has failed, or there is a flag or a quota. That the
--- flag was found set, or the quota spent, is not said here, since no clause knows what an atomic holds.
-abbrev pub IsOver : {F Q : Type 0} → ℕ → Option Error → Option F → Option Q → Type 0
-IsOver left why flag quota = (left ≡ 0) ⊎ IsSome why ⊎ IsSome flag ⊎ IsSome quota
+-- Why no connection will be accepted any more: all that were to be have been, by this reactor or by all that share its quota, the listener has
+-- failed, or there is a flag. That the flag was found set is not said here, since no clause knows what it holds.
+abbrev pub IsOver : {F : Type 0} → ℕ → Option Error → Option F → Option Ticketer → Type 0
+IsOver left why flag ticketer = (left ≡ 0) ⊎ IsSome why ⊎ IsSome flag ⊎ IsSomeAnd ticketer FoundSpent

@@ -4,4 +4,7 @@ pub mod Faults
 pub mod Holding
 pub mod Lingering
 pub mod Pacing
+pub mod Shares
+pub mod Silence
 pub mod Taking
+pub mod Tickets

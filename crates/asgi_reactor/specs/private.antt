@@ -1,2 +1,3 @@
 pub mod Queueing
 pub mod Reaching
+pub mod Steps

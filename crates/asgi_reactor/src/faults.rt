@@ -1,8 +1,9 @@
-//! What a failed accept means (accept(2)).
+//! What a failed accept means (accept(2)), and which failed writes may be tried again (send(2)).
 ghost use Rattle.std.specs.Prelude.{◌≡◌};
 ghost use Rattle.std.specs.IoError.{raw_os_error, error_kind};
-ghost use Rattle.asgi_reactor.specs.Faults.{fault_of, fault_of_code, fault_of_kind};
+ghost use Rattle.asgi_reactor.specs.Faults.{fault_of, fault_of_code, fault_of_kind, may_pass};
 
+use asgi_io::is_passing;
 use std::io::{self, ErrorKind};
 
 /// Where no connection is there: EAGAIN.
@@ -34,6 +35,18 @@ pub fn fault_of(e: &io::Error) -> Fault
     match e.raw_os_error() {
         Some(code) => fault_of_code(code),
         None => fault_of_kind(e.kind()),
+    }
+}
+
+/// Whether a write that failed so may be tried again: it would block, it was interrupted, or memory for it is short.
+pub fn may_pass(e: &io::Error) -> bool
+    ensures { result ≡ may_pass (raw_os_error e.now) (error_kind e.now) }
+{
+    match fault_of(e) {
+        Fault::Short => true,
+        Fault::NoneNow => is_passing(e),
+        Fault::Lost => is_passing(e),
+        Fault::Lasting => is_passing(e),
     }
 }
 

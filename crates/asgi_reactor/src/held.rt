@@ -2,7 +2,7 @@
 ghost use Rattle.std.specs.Prelude.{◌≡◌, ◌↔◌, ◌≤◌, ◌++◌, [], ℕ, List, IsTrue, IfOk, OnOk, OnErr, length, take, vec_len, drop, ◌+◌};
 ghost use Rattle.asgi_reactor.specs.Holding.{GoesOut, TakesOn, many, taken, waiting};
 
-use asgi_io::is_passing;
+use crate::faults::may_pass;
 use std::alloc::{AllocError, Global};
 use std::io::{self, Write};
 
@@ -112,13 +112,13 @@ impl Held {
             match self.push(stream) {
                 Ok(true) => {}
                 Ok(false) => return Ok(self.hold(buf)),
-                Err(e) if is_passing(&e) => return Ok(self.hold(buf)),
+                Err(e) if may_pass(&e) => return Ok(self.hold(buf)),
                 Err(e) => return Err(e),
             }
         }
         match stream.write(buf) {
             Ok(took) => Ok(self.hold_rest(buf, took)),
-            Err(e) if is_passing(&e) => Ok(self.hold(buf)),
+            Err(e) if may_pass(&e) => Ok(self.hold(buf)),
             Err(e) => Err(e),
         }
     }

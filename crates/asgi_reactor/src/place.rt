@@ -1,14 +1,17 @@
 //! What is known of a socket that was registered.
 use crate::draining::Left;
 use crate::lingering::{Linger, Lingering};
-use crate::pace::Pace;
+use crate::losses::Unsent;
+use crate::pace::{Sender, Taker};
 use crate::polled::Polled;
+use crate::silence::Silence;
 use crate::waiting::Wish;
-use asgi_leaving::LeavingLine;
+use asgi_leaving::{Farewell, LeavingLine, Notice};
 use asgi_many::{Rest, Standing};
 use asgi_ws::Wired;
+use std::net::SocketAddr;
 
-/// A line over a socket that never waits, whose session is told once the server goes away.
+/// A line over a socket that never waits, whose session is told what is due by its server.
 pub type PolledLine = LeavingLine<Wired<Polled>>;
 
 /// The socket of a line.
@@ -25,20 +28,32 @@ pub(crate) enum Use {
     Closing(usize),
 }
 
+/// What comes of a connection where too much is held for all clients.
+#[derive(Clone, Copy, Debug, PartialEq, Eq)]
+pub(crate) enum Share {
+    /// It goes on, since less is held than may be.
+    GoesOn,
+    /// It waits until less is held.
+    Waits,
+    /// Its client is given up, since most is held for it.
+    GivenUp,
+}
+
 /// The line of a connection that has ended, which is closed.
 #[derive(Drop)]
 pub(crate) struct Closing {
     line: PolledLine,
     /// For how long it is read.
     lingering: Lingering,
-    /// In how many ticks in a row nothing of what waits for room has left.
-    stuck: u32,
+    /// How its client takes what waits for room.
+    taker: Taker,
 }
 
 /// A socket that was registered.
 #[derive(Drop)]
 pub(crate) struct Place {
     pub(crate) usage: Use,
+    pub(crate) client: SocketAddr,
     /// Why it is to be taken up, if it is.
     pub(crate) wish: Option<Wish>,
     /// Its connection has moved something since the last tick.
@@ -48,19 +63,23 @@ pub(crate) struct Place {
     /// Its connection is in an exchange, and waits.
     pub(crate) is_in_exchange: bool,
     /// How its client sends.
-    pub(crate) pace: Pace,
+    pub(crate) sender: Sender,
     /// Nothing more is read of its client, and its connection ends as if that were silent.
     pub(crate) is_deaf: bool,
     /// Its connection gives its seat to a newcomer, unless something comes.
     pub(crate) gives_way: bool,
     /// In how many ticks in a row its connection has moved nothing.
     pub(crate) silent: u32,
+    /// How long its session has been silent, if it is in one.
+    pub(crate) session: Option<Silence>,
     /// It has bytes that wait for room.
     pub(crate) is_blocked: bool,
-    /// A tick has passed since its line was told something.
-    pub(crate) has_ticked: bool,
-    /// In how many ticks in a row nothing of what waits for room has left.
-    pub(crate) stuck: u32,
+    /// How its client has taken them since they wait.
+    pub(crate) taker: Taker,
+    /// How many bytes are held for its client, as it was counted last.
+    pub(crate) holds: u64,
+    /// What comes of it where too much is held for all clients.
+    pub(crate) share: Share,
     /// What the system told of it, and its line was not told yet.
     pub(crate) is_readable: bool,
     pub(crate) is_ended: bool,
@@ -72,12 +91,29 @@ pub(crate) struct Clocked {
     pub(crate) now: u64,
     pub(crate) least: u64,
     pub(crate) slow: u64,
+    pub(crate) patience: u64,
     pub(crate) leave: u64,
+    pub(crate) ping: u32,
+    pub(crate) pong: u32,
     /// The tick since which all are to end.
     pub(crate) leaving: Option<u64>,
 }
 
 impl Clocked {
+    /// What is due to a line whose session has been silent so long, if it is in one: before all that its server goes away.
+    pub(crate) fn due(&self, session: Option<Silence>) -> Option<Notice> {
+        if self.leaving.is_some() {
+            return Some(Notice::Close(Farewell::GoingAway));
+        }
+        let silence = session?;
+        Some(silence.due(self.ping, self.pong))
+    }
+
+    /// Whether a client takes too slowly what waits for room, now that some more may have left.
+    fn is_taken_too_slowly(&self, taker: &mut Taker, polled: &Polled) -> bool {
+        taker.is_too_slow(self.least.max(1), self.patience, self.now, polled.left())
+    }
+
     /// Whether a connection that rests here is to end.
     fn is_over(&self, standing: Standing) -> bool {
         match self.leaving {
@@ -99,22 +135,23 @@ pub(crate) fn is_exchange(standing: Standing) -> bool {
     }
 }
 
-/// In how many ticks in a row nothing has left, with one more.
-fn after_tick(stuck: u32, polled: &Polled) -> u32 {
-    if polled.has_moved() {
-        return 0;
-    }
-    stuck.saturating_add(1)
-}
-
 impl Closing {
     /// The line of a connection that has ended, whose peer has so long to close it too.
     pub(crate) fn new(line: PolledLine, linger: Linger) -> Closing {
+        if let Some(polled) = socket_of(&line) {
+            let _before = polled.left();
+        }
         Closing {
             line,
             lingering: Lingering::new(linger),
-            stuck: 0,
+            taker: Taker::new(),
         }
+    }
+
+    /// What of it has not left, if it is closed now.
+    pub(crate) fn unsent(&self, client: SocketAddr) -> Option<Unsent> {
+        let (bytes, why) = socket_of(&self.line)?.unsent()?;
+        Some(Unsent { client, bytes, why })
     }
 
     /// Goes on to close it.
@@ -130,15 +167,22 @@ impl Closing {
         left
     }
 
+    /// How many bytes are held for its client.
+    pub(crate) fn holds(&self) -> u64 {
+        match socket_of(&self.line) {
+            Some(polled) => polled.holds(),
+            None => 0,
+        }
+    }
+
     /// A tick has passed. Whether it was to be closed for long enough: its write half is shut, and its client was read for as long as it
-    /// is, or nothing of what waits has left for this many ticks.
-    pub(crate) fn is_late(&mut self, patience: u32) -> bool {
+    /// is, or that takes too slowly what waits.
+    pub(crate) fn is_late(&mut self, clocked: Clocked) -> bool {
         let Some(polled) = socket_of(&self.line) else {
             return true;
         };
         if !polled.push() {
-            self.stuck = after_tick(self.stuck, polled);
-            return self.stuck >= patience;
+            return clocked.is_taken_too_slowly(&mut self.taker, polled);
         }
         self.lingering.tick();
         self.lingering.is_over()
@@ -147,50 +191,92 @@ impl Closing {
 
 impl Place {
     /// That of a newcomer in this seat.
-    pub(crate) fn of_seat(at: usize) -> Place {
+    pub(crate) fn of_seat(at: usize, client: SocketAddr) -> Place {
         Place {
             usage: Use::Seat(at),
+            client,
             wish: None,
             has_moved: true,
             is_silent: false,
             is_in_exchange: false,
-            pace: Pace::new(),
+            sender: Sender::new(),
             is_deaf: false,
             gives_way: false,
             silent: 0,
+            session: None,
             is_blocked: false,
-            has_ticked: false,
-            stuck: 0,
+            taker: Taker::new(),
+            holds: 0,
+            share: Share::GoesOn,
             is_readable: false,
             is_ended: false,
         }
     }
 
     /// Its line is told what the system told of it. Whether nothing waits for room any more: all has left, or its client is given
-    /// up, since nothing did for this many ticks.
-    pub(crate) fn tell(&mut self, polled: &Polled, patience: u32) -> bool {
+    /// up, since it takes it too slowly.
+    pub(crate) fn tell(&mut self, polled: &Polled, clocked: Clocked) -> bool {
         if self.is_ended {
             polled.has_ended();
         } else if self.is_readable {
             polled.may_be_read();
         }
         self.is_readable = false;
-        self.is_blocked = polled.waits() && !polled.push();
-        if self.is_blocked && self.is_stuck(polled, patience) {
+        if polled.waits() {
+            self.push(polled);
+        } else {
+            self.is_blocked = false;
+        }
+        if self.is_given_up(polled, clocked) {
             polled.give_up();
             self.is_blocked = false;
+        }
+        if self.is_blocked {
+            // Who takes nothing has another limit.
+            self.end_silence();
         }
         !self.is_blocked
     }
 
-    /// Whether nothing of what waits for room has left for this many ticks.
-    fn is_stuck(&mut self, polled: &Polled, patience: u32) -> bool {
-        if !self.has_ticked {
-            return false;
+    /// Whether its client is given up: it takes what waits too slowly, or most is held for it where too much is held for all.
+    fn is_given_up(&mut self, polled: &Polled, clocked: Clocked) -> bool {
+        if self.share == Share::GivenUp {
+            return true;
         }
-        self.has_ticked = false;
-        self.stuck = after_tick(self.stuck, polled);
-        self.stuck >= patience
+        self.is_blocked && clocked.is_taken_too_slowly(&mut self.taker, polled)
+    }
+
+    /// A tick of its session was silent, if it was one of its connection.
+    fn count_silence(&mut self) {
+        if !self.is_silent {
+            return;
+        }
+        if let Some(silence) = &mut self.session {
+            silence.tick();
+        }
+    }
+
+    /// Its connection has moved something.
+    pub(crate) fn moves(&mut self) {
+        self.has_moved = true;
+        self.end_silence();
+    }
+
+    /// Its session is not silent.
+    fn end_silence(&mut self) {
+        if let Some(silence) = &mut self.session {
+            silence.end();
+        }
+    }
+
+    /// What is held is written. From when some of it waits for room it is seen how much its client takes.
+    fn push(&mut self, polled: &Polled) {
+        let was_blocked = self.is_blocked;
+        self.is_blocked = !polled.push();
+        if self.is_blocked && !was_blocked {
+            let _before = polled.left();
+            self.taker = Taker::new();
+        }
     }
 
     /// A tick has passed. Whether it is to be taken up: its connection has moved nothing since the one before, or it has bytes that
@@ -202,25 +288,35 @@ impl Place {
         } else {
             0
         };
+        self.count_silence();
         self.has_moved = false;
-        self.has_ticked = true;
-        self.is_silent || self.is_blocked
+        self.is_silent || self.is_blocked || self.share == Share::Waits
     }
 
-    /// Its connection rests. If nothing came since it did before, its memory for what is read ahead and for what it writes is given
-    /// back. From here on it ends as if its client were silent, if that sends the bytes of a head or a body too slowly, or if the
+    /// Its connection rests, and what it wrote leaves. If nothing came since it did before, its memory for what is read ahead and for
+    /// what it writes is given back. From here on it ends as if its client were silent, if that sends the bytes of a head or a body too slowly, or if the
     /// server ends.
     pub(crate) fn rests(&mut self, polled: &Polled, rest: Rest, clocked: Clocked) {
         let came = polled.came();
         if came == 0 {
             polled.let_go();
         }
+        if rest.standing == Standing::InSession && (came > 0 || self.session.is_none()) {
+            self.session = Some(Silence::new());
+        }
         let is_given = self.gives_way && came == 0 && !is_exchange(rest.standing);
         self.gives_way = is_given;
-        if is_given || clocked.is_over(rest.standing) || self.is_too_slow(came, rest, clocked) {
+        let is_over = clocked.is_over(rest.standing) && !self.is_new(rest);
+        if is_given || is_over || self.is_too_slow(came, rest, clocked) {
             self.is_deaf = true;
             polled.stop_reading();
         }
+        self.push(polled);
+    }
+
+    /// Whether its first request may be on its way: none has come, and no tick has passed without a move.
+    fn is_new(&self, rest: Rest) -> bool {
+        rest.standing == Standing::Between && rest.exchanges == 0 && self.silent == 0
     }
 
     /// For how many ticks in a row its connection has been silent between two requests, if it could give its seat away.
@@ -238,7 +334,7 @@ impl Place {
             return false;
         }
         let (least, slow) = (clocked.least, clocked.slow);
-        self.pace
+        self.sender
             .is_too_slow(least, slow, clocked.now, came, rest.exchanges)
     }
 

@@ -1,13 +1,16 @@
 //! A socket that never waits.
 use crate::draining::{Left, drain};
+use crate::faults::may_pass;
 use crate::held::{Held, JOINED, Took};
 use asgi_ahead::Ahead;
-use asgi_io::is_passing;
 use mio::net::TcpStream;
 use std::alloc::Global;
 use std::cell::{Cell, RefCell};
 use std::io::{self, ErrorKind, Read, Write};
 use std::net::Shutdown;
+
+/// How many bytes are read ahead of what is asked for.
+const AHEAD: u64 = 65_536;
 
 /// A socket that never waits. It is read only once it was told that something may be there, until a read found less than
 /// it had room for; after one that filled its room more is read at once than is asked for (`Ahead`), and the next reads give
@@ -30,13 +33,16 @@ pub struct Polled {
     is_deaf: Cell<bool>,
     // What is held waits for room.
     waits: Cell<bool>,
-    // Some of what was held has left since it was asked for.
-    has_moved: Cell<bool>,
+    // How many bytes of what was held have left since it was asked for.
+    left: Cell<u64>,
     // Something was written, and from the second write on none waits for an acknowledgement of the one before.
     has_written: Cell<bool>,
     is_prompt: Cell<bool>,
-    // Nothing more can be written.
+    // Nothing more can be written, and the error of the push that told so.
     is_broken: Cell<bool>,
+    why: Cell<Option<io::Error>>,
+    // A write has failed, so its connection was told that not all has left.
+    is_told: Cell<bool>,
     // The write half was shut.
     is_shut: Cell<bool>,
 }
@@ -53,10 +59,12 @@ impl Polled {
             came: Cell::new(0),
             is_deaf: Cell::new(false),
             waits: Cell::new(false),
-            has_moved: Cell::new(false),
+            left: Cell::new(0),
             has_written: Cell::new(false),
             is_prompt: Cell::new(false),
             is_broken: Cell::new(false),
+            why: Cell::new(None),
+            is_told: Cell::new(false),
             is_shut: Cell::new(false),
         }
     }
@@ -84,6 +92,30 @@ impl Polled {
         }
         if let Ok(mut held) = self.held.try_borrow_mut() {
             held.let_go();
+        }
+    }
+
+    /// How many bytes are held for its client: those that wait to be written, and the memory for what was read ahead, if some is there.
+    pub fn holds(&self) -> u64 {
+        self.written_ahead().saturating_add(self.read_ahead())
+    }
+
+    /// How many bytes wait to be written, if they may still be.
+    fn written_ahead(&self) -> u64 {
+        if self.is_broken.get() {
+            return 0;
+        }
+        match self.held.try_borrow() {
+            Ok(held) => held.len() as u64,
+            Err(_) => 0,
+        }
+    }
+
+    /// How much memory there is for what was read ahead, if some is there.
+    fn read_ahead(&self) -> u64 {
+        match self.ahead.try_borrow() {
+            Ok(ahead) => { if ahead.is_empty() { 0 } else { AHEAD } }
+            Err(_) => 0,
         }
     }
 
@@ -118,13 +150,15 @@ impl Polled {
         let before = held.len();
         let mut stream = &self.stream;
         let pushed = held.push(&mut stream);
-        if held.len() < before {
-            self.has_moved.set(true);
-        }
+        let left = before.saturating_sub(held.len());
+        self.left.set(self.left.get().saturating_add(left as u64));
         match pushed {
             Ok(all) => all,
             Err(e) => {
-                self.is_broken.set(!is_passing(&e));
+                if !may_pass(&e) {
+                    self.is_broken.set(true);
+                    self.why.set(Some(e));
+                }
                 self.is_broken.get()
             }
         }
@@ -138,9 +172,22 @@ impl Polled {
         }
     }
 
-    /// Whether some of what was held has left since this was asked the last time.
-    pub fn has_moved(&self) -> bool {
-        self.has_moved.replace(false)
+    /// How many bytes of what was held have left since this was asked the last time.
+    pub fn left(&self) -> u64 {
+        self.left.replace(0)
+    }
+
+    /// What was said to be written and has not left, if it is closed now and no write has told its connection of that: how many bytes,
+    /// and the system's error if it was one.
+    pub fn unsent(&self) -> Option<(usize, Option<io::Error>)> {
+        if self.is_told.get() {
+            return None;
+        }
+        match self.held.try_borrow() {
+            Ok(held) if !held.is_empty() => Some((held.len(), self.why.get())),
+            Ok(_) => None,
+            Err(_) => None,
+        }
     }
 
     /// Its client takes too little: nothing more is written to it, and nothing is read of it.
@@ -225,6 +272,7 @@ impl Read for Polled {
 impl Write for Polled {
     fn write(&mut self, buf: &[u8]) -> io::Result<usize> {
         if self.is_broken.get() {
+            self.is_told.set(true);
             return self.stream.write(buf);
         }
         if buf.len() > JOINED.saturating_sub(self.held.get_mut().len()) {
@@ -235,6 +283,7 @@ impl Write for Polled {
         let held = self.held.get_mut();
         let wrote = held.join(&mut self.stream, buf);
         self.waits.set(held.len() > JOINED);
+        self.is_told.set(wrote.is_err());
         match wrote? {
             Took::All => Ok(buf.len()),
             Took::Part(0, _) => Err(would_block()),

@@ -3,15 +3,19 @@ ghost use Rattle.std.specs.Prelude.{◌≡◌};
 ghost use Rattle.asgi_reactor.specs.declared.draining.Left.TheVariants.{More};
 ghost use Rattle.asgi_reactor.specs.private.Queueing.{Waits};
 
+use crate::budget::Budget;
 use crate::draining::Left;
 use crate::lingering::Linger;
+use crate::losses::Losses;
 use crate::numbers::Numbers;
-use crate::place::{Clocked, Closing, Place, PolledLine, Use, is_exchange, socket_of};
+use crate::place::{Clocked, Closing, Place, PolledLine, Share, Use, is_exchange, socket_of};
 use crate::waiting::{Waiting, Wish};
+use crate::wants::Wants;
 use asgi_many::{Ready, Rest};
 use mio::event::Event;
 use slab::Slab;
 use std::alloc::{AllocError, Global};
+use std::net::SocketAddr;
 use std::time::Duration;
 
 /// How many turns in a row one connection takes before the others have theirs.
@@ -22,6 +26,9 @@ const IN_A_ROW: u32 = 16;
 const BEAT: u64 = 10;
 
 const IN_A_MILLISECOND: u64 = 20;
+
+/// How many clients are given up at a tick at the most, since too much is held for all of them.
+const GIVEN_UP: u32 = 64;
 
 /// The sockets that were registered, under their tokens, and those that are to be taken up.
 #[derive(Drop)]
@@ -35,19 +42,23 @@ pub(crate) struct Queue {
     /// The one that goes on at once, and how many turns in a row it has had.
     first: Option<usize>,
     turns: u32,
-    /// For how many ticks in a row nothing of what waits for room may leave.
-    patience: u32,
     /// How long a connection that has ended is kept for its peer to close it too.
     linger: Linger,
     /// After how many silent ticks a connection between two requests gives its seat to a newcomer.
     give_way: u32,
     /// The one that does.
     giving: Option<usize>,
+    /// How many bytes are held for all clients.
+    budget: Budget,
     /// How many are in an exchange that waits.
     exchanges: u64,
     clocked: Clocked,
     /// A socket was closed since it was asked for.
     freed: bool,
+    /// Of which connections the log is to be told.
+    pub(crate) losses: Losses,
+    /// Since when newcomers wait.
+    wants: Wants,
 }
 
 /// Names the connection in this seat, which may move something, or for which a tick is to be counted.
@@ -70,19 +81,24 @@ impl Queue {
             waiting: Waiting::new(alloc),
             first: None,
             turns: 0,
-            patience: numbers.patience,
             linger: numbers.linger,
             give_way: numbers.give_way,
             giving: None,
+            budget: Budget::new(numbers.held),
             exchanges: 0,
             clocked: Clocked {
                 now: 0,
                 least: numbers.least,
                 slow: numbers.slow as u64,
+                patience: numbers.patience as u64,
                 leave: numbers.leave as u64,
+                ping: numbers.ping,
+                pong: numbers.pong,
                 leaving: None,
             },
             freed: false,
+            losses: Losses::new(),
+            wants: Wants::new(),
         })
     }
 
@@ -99,9 +115,9 @@ impl Queue {
     }
 
     /// A token for the socket of a newcomer in this seat, unless memory is refused or there is no such seat.
-    pub(crate) fn add(&mut self, at: usize) -> Option<usize> {
+    pub(crate) fn add(&mut self, at: usize, client: SocketAddr) -> Option<usize> {
         let seat = self.tokens.get_mut(at)?;
-        let token = self.places.insert(Place::of_seat(at)).ok()?;
+        let token = self.places.insert(Place::of_seat(at, client)).ok()?;
         *seat = token;
         Some(token)
     }
@@ -112,8 +128,14 @@ impl Queue {
         let Some(gone) = self.places.try_remove(token) else {
             return;
         };
+        self.budget.change(gone.holds, 0);
         if let Use::Closing(key) = gone.usage {
-            let _closed = self.closing.try_remove(key);
+            let Some(closed) = self.closing.try_remove(key) else {
+                return;
+            };
+            if let Some(unsent) = closed.unsent(gone.client) {
+                self.losses.add_unsent(unsent);
+            }
         }
     }
 
@@ -125,10 +147,24 @@ impl Queue {
         let has_ended = event.is_read_closed() || event.is_error();
         place.is_ended = place.is_ended || has_ended;
         place.is_readable = place.is_readable || event.is_readable() || has_ended;
-        self.push(token);
+        self.hear_of(token);
     }
 
-    /// The socket with this token waits to be taken up.
+    /// The system told of the socket with this token, which waits to be taken up: also if it would go on by itself.
+    fn hear_of(&mut self, token: usize) {
+        let Some(place) = self.places.get_mut(token) else {
+            return;
+        };
+        if place.wish == Some(Wish::Told) {
+            return;
+        }
+        // If memory is refused, it is taken up at a tick.
+        if self.waiting.push(token, Wish::Told) {
+            place.wish = Some(Wish::Told);
+        }
+    }
+
+    /// The socket with this token goes on by itself, and waits to be taken up.
     fn push(&mut self, token: usize)
         ensures waits { Waits self.old self.new token }
     {
@@ -136,6 +172,9 @@ impl Queue {
             return;
         };
         if place.wish == Some(Wish::Goes) {
+            return;
+        }
+        if place.wish == Some(Wish::Told) {
             return;
         }
         // If memory is refused, it is taken up at a tick.
@@ -212,7 +251,7 @@ impl Queue {
             return;
         };
         if let Some(place) = self.places.get_mut(token) {
-            place.has_moved = true;
+            place.moves();
         }
         if self.turns < IN_A_ROW {
             self.turns += 1;
@@ -278,26 +317,95 @@ impl Queue {
         }
     }
 
-    /// The line of this seat is told what the system told, and whether the server goes away. Whether nothing of it waits for room.
+    /// The line of this seat is told what the system told, and what is due to its session. Whether nothing of it waits for room.
     pub(crate) fn tell(&mut self, at: usize, line: &PolledLine) -> bool {
-        if self.clocked.leaving.is_some() {
-            line.leave();
-        }
-        let patience = self.patience;
+        let clocked = self.clocked;
         let Some(token) = self.token_of(at) else {
             return true;
         };
         let Some(place) = self.places.get_mut(token) else {
             return true;
         };
-        match socket_of(line) {
-            Some(polled) => place.tell(polled, patience),
-            None => true,
+        if let Some(notice) = clocked.due(place.session) {
+            line.owe(notice);
+        }
+        let Some(polled) = socket_of(line) else {
+            return true;
+        };
+        let may_go_on = place.tell(polled, clocked);
+        self.weigh(token, polled.holds());
+        may_go_on && !self.waits_for_others(token)
+    }
+
+    /// So many bytes are held for the client whose socket has this token.
+    fn weigh(&mut self, token: usize, holds: u64) {
+        let Some(place) = self.places.get_mut(token) else {
+            return;
+        };
+        self.budget.change(place.holds, holds);
+        place.holds = holds;
+    }
+
+    /// Whether the connection whose socket has this token waits, until less is held for all clients. One that is given up goes on to
+    /// its end.
+    fn waits_for_others(&mut self, token: usize) -> bool {
+        let Some(place) = self.places.get_mut(token) else {
+            return false;
+        };
+        if place.share == Share::GivenUp {
+            return false;
+        }
+        let is_spent = self.budget.is_spent();
+        place.share = if is_spent {
+            Share::Waits
+        } else {
+            Share::GoesOn
+        };
+        is_spent
+    }
+
+    /// While too much is held for all clients, the one for which most is held is given up, and so on, up to so many at a time.
+    fn make_light(&mut self) {
+        for _one in 0..GIVEN_UP {
+            if !self.budget.is_spent() {
+                return;
+            }
+            let Some(token) = self.heaviest() else {
+                return;
+            };
+            self.give_up(token);
         }
     }
 
-    /// The connection in this seat has ended, and its line is closed. The client of a session that was told that the server goes away
-    /// is told too.
+    /// The client whose socket has this token is given up.
+    fn give_up(&mut self, token: usize) {
+        if self.closing_of(token).is_some() {
+            return self.remove(token);
+        }
+        self.weigh(token, 0);
+        if let Some(place) = self.places.get_mut(token) {
+            place.share = Share::GivenUp;
+        }
+        self.push(token);
+    }
+
+    /// The token of the socket for whose client most is held.
+    fn heaviest(&self) -> Option<usize> {
+        let (mut most, mut found) = (0, None);
+        for token in 0..self.places.capacity() {
+            let holds = match self.places.get(token) {
+                Some(place) => place.holds,
+                None => 0,
+            };
+            if holds > most {
+                most = holds;
+                found = Some(token);
+            }
+        }
+        found
+    }
+
+    /// The connection in this seat has ended, and its line is closed. The client of a session that was told to end is told too.
     pub(crate) fn close(&mut self, at: usize, line: PolledLine) {
         let mut line = line;
         line.close_session();
@@ -323,10 +431,11 @@ impl Queue {
         let Some(key) = self.closing_of(token) else {
             return;
         };
-        let left = match self.closing.get_mut(key) {
-            Some(closing) => closing.go_on(),
-            None => Left::Nothing,
+        let (left, holds) = match self.closing.get_mut(key) {
+            Some(closing) => (closing.go_on(), closing.holds()),
+            None => (Left::Nothing, 0),
         };
+        self.weigh(token, holds);
         self.leave_for(token, left);
     }
 
@@ -353,6 +462,7 @@ impl Queue {
     /// A tick has passed: those that have moved nothing since the one before are taken up.
     pub(crate) fn tick(&mut self) {
         self.clocked.now = self.clocked.now.saturating_add(1);
+        self.make_light();
         for token in 0..self.places.capacity() {
             if self.is_late(token) {
                 self.remove(token);
@@ -375,9 +485,14 @@ impl Queue {
             return false;
         };
         match self.closing.get_mut(key) {
-            Some(closing) => closing.is_late(self.patience),
+            Some(closing) => closing.is_late(self.clocked),
             None => true,
         }
+    }
+
+    /// For how many ticks newcomers have waited, if they do and the log is to be told of it.
+    pub(crate) fn hear_wait(&mut self, wait: bool) -> Option<u64> {
+        self.wants.hear(self.clocked.now, wait)
     }
 
     /// The server is to end: each connection is taken up, those between two requests end, and sessions are told.

@@ -1,30 +1,34 @@
 //! Where the connections of a port come from, and which of them may go on.
-ghost use Rattle.std.specs.Prelude.{◌≡◌, ◌⊎◌, ◌+◌, ◌++◌, ◌∷◌, [], ℕ, None, IfOk, IsFalse, IsSome, IsTrue};
+ghost use Rattle.std.specs.Prelude.{◌≡◌, ◌⊎◌, ◌+◌, ◌++◌, ◌∷◌, [], ℕ, None, Some, IfOk, IsFalse, IsSome, IsTrue};
 ghost use Rattle.asgi_many.specs.Moves.{asked_by};
 ghost use Rattle.asgi_many.specs.declared.reactor.Next.TheVariants.{NoneEver, NoneNow};
-ghost use Rattle.asgi_reactor.specs.Accepting.{IfArrived, IsNone, IsNoneEver, in_all};
+ghost use Rattle.asgi_reactor.specs.Accepting.{IfArrived, IsNone, IsNoneEver, kept_at, kept_in};
 ghost use Rattle.asgi_reactor.specs.Faults.{HasFailed, IsOver};
+ghost use Rattle.asgi_reactor.specs.Shares.{Share, quota_of, share_of};
 
 use crate::faults::{Fault, fault_of};
 use crate::numbers::Numbers;
 use crate::peers::{own_peer, peer_at};
 pub use crate::place::PolledLine;
-use crate::place::socket_of;
 use crate::polled::Polled;
 use crate::queue::Queue;
-use crate::quota::Quota;
+use crate::quota::{Quota, Ticketer};
+use crate::tickets::{another, is_spent, used};
+use crate::wants::tell_wait;
 use asgi_io::History;
 use asgi_leaving::LeavingLine;
 use asgi_many::{Move, Newcomer, Next, Reactor, Ready, Rest};
 use asgi_types::Peer;
 use asgi_ws::Wired;
+use log::Log;
 use mio::net::{TcpListener, TcpStream};
 use mio::{Events, Interest, Poll, Token};
 use std::alloc::Global;
-use std::io;
+use std::io::{self, ErrorKind};
 use std::net::{Net, SocketAddr};
 use std::os::fd::AsFd;
 use std::sync::atomic::{AtomicBool, Ordering};
+use std::thread;
 use std::time::{Clock, Duration, Instant};
 
 /// The token of the listener.
@@ -36,11 +40,20 @@ const EVENTS: usize = 1_024;
 /// How many connections in a row may be lost between their arrival and their being accepted.
 const LOST_IN_A_ROW: u32 = 1_000;
 
+/// How many waits in a row may fail, each of which takes until the next tick.
+const FAILED_IN_A_ROW: u32 = 10;
+
+/// How many connections are accepted at the most that wait in the queue of the port as it is to be closed.
+const LAST_NEWCOMERS: u32 = 1_000;
+
 /// How many connections are accepted before those that sit have their turns.
 const NEWCOMERS: u32 = 16;
 
 /// The shortest tick, in milliseconds.
 const SHORTEST_TICK: u64 = 1;
+
+/// In how many turns something moves before the clock is asked: a request of few bytes has no more.
+const UNTIMED: u32 = 3;
 
 /// For how many milliseconds after a wait a connection takes turns in a row. From then on each has one at a time.
 const LONG_ROW: u64 = 1;
@@ -75,8 +88,8 @@ pub struct SocketReactor<'a, R: Clock> {
     queue: Queue,
     // How many more connections will be accepted.
     left: u64,
-    // How many more all will accept that share the socket, if it is shared.
-    quota: Option<&'a Quota>,
+    // Takes a ticket for each that is accepted, if all that share the socket have a quota.
+    ticketer: Option<Ticketer<'a>>,
     // Looked at before each accept.
     flag: Option<&'a AtomicBool>,
     // One may have arrived.
@@ -89,16 +102,23 @@ pub struct SocketReactor<'a, R: Clock> {
     lost: u32,
     // How many were accepted since the last wait.
     accepted: u32,
-    // The last accept found no descriptor or no memory.
-    is_short: bool,
+    // How many more are accepted once the flag is set, of those that wait in the queue of the port.
+    last: u32,
+    // The last accept found no descriptor or no memory: the system's error.
+    short: Option<io::Error>,
+    // How many waits in a row have failed, and the last error.
+    failed: u32,
+    fault: Option<io::Error>,
     tick: Duration,
     last_tick: Option<Instant>,
     // The exchanges that wait were looked at.
     last_beat: Option<Instant>,
     // What time it was after the last wait. The clock is asked once for each.
     time: Option<Instant>,
-    // What time it was after the last turn in which something moved, since the last wait.
+    // What time it was after the last turn in which something moved and the clock was asked, since the last wait.
     seen: Option<Instant>,
+    // In how many turns something has moved since it was.
+    untimed: u32,
     why: Option<io::Error>,
     told: History<Next<PolledLine>>,
     moves: History<Move>,
@@ -116,6 +136,7 @@ impl<'a, R: Net + Clock> SocketReactor<'a, R> {
     ) -> io::Result<Self>
         ensures nothing { IfOk result (λ r. (r.told.items ≡ []) × (r.why ≡ None)) }
         ensures count { IfOk result (λ r. r.left ≡ numbers.now.count) }
+        ensures ticketer { IfOk result (λ r. r.ticketer ≡ None) }
     {
         let listener = TcpListener::bind(rt, address)?;
         SocketReactor::of(rt, alloc, listener, numbers, flag, None)
@@ -126,13 +147,15 @@ impl<'a, R: Net + Clock> SocketReactor<'a, R> {
     pub fn beside(&self, numbers: &Numbers) -> io::Result<Self>
         ensures nothing { IfOk result (λ r. (r.told.items ≡ []) × (r.why ≡ None)) }
         ensures count { IfOk result (λ r. r.left ≡ numbers.now.count) }
+        ensures kept { IfOk result (λ r. kept_in r.told.items r.left r.ticketer ≡ kept_at numbers.now.count (quota_of self.now.ticketer)) }
     {
         let Some(listener) = &self.listener else {
             return Err(io::Error::from_raw_os_error(CLOSED));
         };
         let listener = TcpListener::from(listener.as_fd().try_clone_to_owned()?);
+        let ticketer = another(&self.ticketer);
         SocketReactor::of(
-            self.clock, self.alloc, listener, numbers, self.flag, self.quota,
+            self.clock, self.alloc, listener, numbers, self.flag, ticketer,
         )
     }
 
@@ -143,10 +166,11 @@ impl<'a, R: Net + Clock> SocketReactor<'a, R> {
         mut listener: TcpListener,
         numbers: &Numbers,
         flag: Option<&'a AtomicBool>,
-        quota: Option<&'a Quota>,
+        ticketer: Option<Ticketer<'a>>,
     ) -> io::Result<Self>
         ensures nothing { IfOk result (λ r. (r.told.items ≡ []) × (r.why ≡ None)) }
         ensures count { IfOk result (λ r. r.left ≡ numbers.now.count) }
+        ensures ticketer { IfOk result (λ r. r.ticketer ≡ ticketer.entry) }
     {
         let poll = Poll::new(rt)?;
         poll.registry()
@@ -161,19 +185,23 @@ impl<'a, R: Net + Clock> SocketReactor<'a, R> {
             own,
             queue: Queue::new(alloc, numbers)?,
             left: numbers.count,
-            quota,
+            ticketer,
             flag,
             arrived: true,
             has_newcomers: false,
             may_give_away: false,
             lost: 0,
             accepted: 0,
-            is_short: false,
+            last: LAST_NEWCOMERS,
+            short: None,
+            failed: 0,
+            fault: None,
             tick: numbers.tick.max(Duration::from_millis(SHORTEST_TICK)),
             last_tick: time_of(rt),
             last_beat: time_of(rt),
             time: time_of(rt),
             seen: None,
+            untimed: 0,
             why: None,
             told: History::new(),
             moves: History::new(),
@@ -184,11 +212,21 @@ impl<'a, R: Net + Clock> SocketReactor<'a, R> {
 impl<'a, R: Clock> SocketReactor<'a, R> {
     /// The same, which accepts no more connections than all that share this quota are to accept together.
     pub fn within(self, quota: &'a Quota) -> Self
-        ensures { let was = self.entry in (result.told ≡ was.told) × (result.left ≡ was.left) × (result.why ≡ was.why) × (result.moves ≡ was.moves) }
+        ensures same { let was = self.entry in (result.told ≡ was.told) × (result.left ≡ was.left) × (result.why ≡ was.why) × (result.moves ≡ was.moves) }
+        ensures quota { quota_of result.ticketer ≡ Some quota.now }
+        ensures kept { self.entry.told.items ≡ [] → kept_in result.told.items result.left result.ticketer ≡ kept_at self.entry.left (Some quota.now) }
     {
         let mut reactor = self;
-        reactor.quota = Some(quota);
+        reactor.ticketer = Some(quota.ticketer());
         reactor
+    }
+
+    /// Ends it, and gives what it took tickets by.
+    pub fn into_ticketer(self) -> Option<Ticketer<'a>>
+        ensures { result ≡ self.entry.ticketer }
+    {
+        let mut reactor = self;
+        reactor.ticketer.take()
     }
 }
 
@@ -208,7 +246,9 @@ impl<R: Clock> SocketReactor<'_, R> {
     {
         self.why
     }
+}
 
+impl<'a, R: Clock + Log> SocketReactor<'a, R> {
     /// Ends it, as `finish` does.
     pub fn end(self) {
         let mut reactor = self;
@@ -218,25 +258,37 @@ impl<R: Clock> SocketReactor<'_, R> {
     /// Writes what is still held of connections that have ended, and closes them, as long as their clients take something. The
     /// seats of a server that goes on are closed at once.
     pub fn finish(&mut self)
-        ensures { (self.new.told ≡ self.old.told) × (self.new.why ≡ self.old.why) × (self.new.moves ≡ self.old.moves) }
+        ensures same { (self.new.told ≡ self.old.told) × (self.new.why ≡ self.old.why) × (self.new.moves ≡ self.old.moves) }
+        ensures kept { kept_in self.new.told.items self.new.left self.new.ticketer ≡ kept_in self.old.told.items self.old.left self.old.ticketer }
     {
         self.queue.leave_seats();
         for _wait in 0..LAST_WAITS {
-            if self.queue.is_empty() {
-                return;
+            if self.queue.is_empty() || self.failed >= FAILED_IN_A_ROW {
+                break;
             }
             self.gather();
             let _none = self.queue.next();
         }
+        self.queue.losses.tell(self.clock);
     }
 
     /// Whether no connection is accepted any more.
-    fn is_over(&self) -> bool
-        ensures left { IsFalse result → ¬ (self.now.left ≡ 0) }
-        ensures why { IsFalse result → self.now.why ≡ None }
-        ensures over { IsTrue result → IsOver self.now.left self.now.why self.now.flag self.now.quota }
+    fn is_over(&mut self) -> bool
+        ensures left { IsFalse result → ¬ (self.new.left ≡ 0) }
+        ensures why { IsFalse result → self.new.why ≡ None }
+        ensures over { IsTrue result → IsOver self.new.left self.new.why self.new.flag self.new.ticketer }
+        ensures same { self.new ≡ record self.old { ticketer = self.new.ticketer } }
+        ensures share { share_of self.new.ticketer self.new.left ≡ share_of self.old.ticketer self.old.left }
     {
-        self.left == 0 || self.why.is_some() || is_set(self.flag) || is_spent(self.quota)
+        self.left == 0 || self.why.is_some() || self.is_to_end() || is_spent(&mut self.ticketer)
+    }
+
+    /// Whether the flag is set, and those that waited in the queue of the port then were accepted: their clients have connected, and
+    /// may have sent a request.
+    fn is_to_end(&self) -> bool
+        ensures yes { IsTrue result → IsSome self.now.flag }
+    {
+        is_set(self.flag) && self.last == 0
     }
 
     /// Whether those that sit have their turns before one more is accepted.
@@ -249,9 +301,10 @@ impl<R: Clock> SocketReactor<'_, R> {
         ensures told { (self.new.told ≡ self.old.told) × (self.new.moves ≡ self.old.moves) }
         ensures some { IfArrived result (λ _. (self.old.left ≡ self.new.left + 1) × (self.new.why ≡ None)) }
         ensures none { IsNone result → self.new.left ≡ self.old.left }
-        ensures ever { IsNoneEver result → IsOver self.new.left self.new.why self.new.flag self.new.quota }
+        ensures ever { IsNoneEver result → IsOver self.new.left self.new.why self.new.flag self.new.ticketer }
         ensures closed { IsNoneEver result → self.new.listener ≡ None }
         ensures why { (self.new.why ≡ self.old.why) ⊎ HasFailed self.new.why }
+        ensures share { share_of self.new.ticketer self.new.left ≡ share_of self.old.ticketer self.old.left }
     {
         if self.is_over() {
             return self.ends();
@@ -260,34 +313,34 @@ impl<R: Clock> SocketReactor<'_, R> {
             return Next::NoneNow;
         }
         if self.queue.make_room().is_err() {
+            self.count_last(LAST_NEWCOMERS);
             return Next::NoneNow;
         }
-        if let Some(quota) = self.quota {
-            return self.accept_within(quota, at);
+        match self.ticketer.take() {
+            Some(ticketer) => self.accept_within(ticketer, at),
+            None => self.accept_one(at),
         }
-        self.accept_one(at)
     }
 
-    /// The same if it shares this quota. While the others have taken all of it, none is asked for.
-    fn accept_within(&mut self, quota: &Quota, at: usize) -> Next<PolledLine>
+    /// The same if what takes tickets is this, which is put back. While the others have taken all, none is asked for.
+    fn accept_within(&mut self, ticketer: Ticketer<'a>, at: usize) -> Next<PolledLine>
         requires left { ¬ (self.old.left ≡ 0) }
         requires why { self.old.why ≡ None }
         ensures told { (self.new.told ≡ self.old.told) × (self.new.moves ≡ self.old.moves) }
         ensures some { IfArrived result (λ _. (self.old.left ≡ self.new.left + 1) × (self.new.why ≡ None)) }
         ensures none { IsNone result → self.new.left ≡ self.old.left }
-        ensures ever { IsNoneEver result → IsOver self.new.left self.new.why self.new.flag self.new.quota }
+        ensures ever { IsNoneEver result → HasFailed self.new.why }
         ensures closed { IsNoneEver result → self.new.listener ≡ None }
         ensures why { (self.new.why ≡ self.old.why) ⊎ HasFailed self.new.why }
+        ensures share { share_of self.new.ticketer self.new.left ≡ share_of (Some ticketer.entry) self.old.left }
     {
-        if !quota.take() {
+        let mut ticketer = ticketer;
+        if !ticketer.take() {
+            self.ticketer = Some(ticketer);
             return Next::NoneNow;
         }
         let next = self.accept_one(at);
-        match &next {
-            Next::Arrived(_newcomer) => quota.spend(),
-            Next::NoneNow => quota.give_back(),
-            Next::NoneEver => quota.give_back(),
-        }
+        self.ticketer = Some(used(ticketer, &next));
         next
     }
 
@@ -298,21 +351,33 @@ impl<R: Clock> SocketReactor<'_, R> {
         ensures told { (self.new.told ≡ self.old.told) × (self.new.moves ≡ self.old.moves) }
         ensures some { IfArrived result (λ _. (self.old.left ≡ self.new.left + 1) × (self.new.why ≡ None)) }
         ensures none { IsNone result → self.new.left ≡ self.old.left }
-        ensures ever { IsNoneEver result → IsOver self.new.left self.new.why self.new.flag self.new.quota }
+        ensures ever { IsNoneEver result → HasFailed self.new.why }
         ensures closed { IsNoneEver result → self.new.listener ≡ None }
         ensures why { (self.new.why ≡ self.old.why) ⊎ HasFailed self.new.why }
+        ensures ticketer { self.new.ticketer ≡ self.old.ticketer }
     {
         match self.next_stream() {
             Ok((stream, from)) => match self.take(stream, from, at) {
                 Some(newcomer) => {
                     self.left -= 1;
                     self.lost = 0;
+                    self.short = None;
                     self.accepted = self.accepted.saturating_add(1);
+                    self.count_last(1);
                     Next::Arrived(newcomer)
                 }
                 None => self.passes(),
             },
             Err(e) => self.fails(e),
+        }
+    }
+
+    /// So many fewer are accepted, if the flag is set.
+    fn count_last(&mut self, many: u32)
+        ensures same { self.new ≡ record self.old { last = self.new.last } }
+    {
+        if is_set(self.flag) {
+            self.last = self.last.saturating_sub(many);
         }
     }
 
@@ -329,7 +394,7 @@ impl<R: Clock> SocketReactor<'_, R> {
         ensures ever { result ≡ NoneEver }
         ensures closed { self.new.listener ≡ None }
         ensures same { (self.new.told ≡ self.old.told) × (self.new.moves ≡ self.old.moves) × (self.new.left ≡ self.old.left) × (self.new.why ≡ self.old.why) }
-        ensures ends { (self.new.flag ≡ self.old.flag) × (self.new.quota ≡ self.old.quota) }
+        ensures ends { (self.new.flag ≡ self.old.flag) × (self.new.ticketer ≡ self.old.ticketer) }
     {
         self.stop_listening();
         Next::NoneEver
@@ -340,7 +405,7 @@ impl<R: Clock> SocketReactor<'_, R> {
     fn stop_listening(&mut self)
         ensures closed { self.new.listener ≡ None }
         ensures same { (self.new.told ≡ self.old.told) × (self.new.moves ≡ self.old.moves) × (self.new.left ≡ self.old.left) × (self.new.why ≡ self.old.why) }
-        ensures ends { (self.new.flag ≡ self.old.flag) × (self.new.quota ≡ self.old.quota) }
+        ensures ends { (self.new.flag ≡ self.old.flag) × (self.new.ticketer ≡ self.old.ticketer) }
     {
         if let Some(listener) = &mut self.listener {
             // The same socket may be open in other threads, and be told of here, until it is closed there too.
@@ -352,7 +417,7 @@ impl<R: Clock> SocketReactor<'_, R> {
     /// A connection was lost. The next one is asked for at once, unless too many were lost.
     fn passes(&mut self) -> Next<PolledLine>
         ensures now { result ≡ NoneNow }
-        ensures same { (self.new.told ≡ self.old.told) × (self.new.moves ≡ self.old.moves) × (self.new.left ≡ self.old.left) × (self.new.why ≡ self.old.why) }
+        ensures same { (self.new.told ≡ self.old.told) × (self.new.moves ≡ self.old.moves) × (self.new.left ≡ self.old.left) × (self.new.why ≡ self.old.why) × (self.new.ticketer ≡ self.old.ticketer) }
     {
         self.lost = self.lost.saturating_add(1);
         self.arrived = self.lost < LOST_IN_A_ROW;
@@ -365,17 +430,19 @@ impl<R: Clock> SocketReactor<'_, R> {
         ensures ever { IsNoneEver result → HasFailed self.new.why }
         ensures closed { IsNoneEver result → self.new.listener ≡ None }
         ensures why { (self.new.why ≡ self.old.why) ⊎ HasFailed self.new.why }
-        ensures same { (self.new.told ≡ self.old.told) × (self.new.moves ≡ self.old.moves) × (self.new.left ≡ self.old.left) }
+        ensures same { (self.new.told ≡ self.old.told) × (self.new.moves ≡ self.old.moves) × (self.new.left ≡ self.old.left) × (self.new.ticketer ≡ self.old.ticketer) }
     {
         match fault_of(&e) {
             Fault::Lost => self.passes(),
             Fault::NoneNow => {
                 self.lost = 0;
                 self.has_newcomers = false;
+                self.count_last(LAST_NEWCOMERS);
                 Next::NoneNow
             }
             Fault::Short => {
-                self.is_short = true;
+                self.short = Some(e);
+                self.count_last(LAST_NEWCOMERS);
                 Next::NoneNow
             }
             Fault::Lasting => {
@@ -392,18 +459,18 @@ impl<R: Clock> SocketReactor<'_, R> {
         from: SocketAddr,
         at: usize,
     ) -> Option<Newcomer<PolledLine>>
-        ensures { (self.new.told ≡ self.old.told) × (self.new.moves ≡ self.old.moves) × (self.new.left ≡ self.old.left) × (self.new.why ≡ self.old.why) }
+        ensures { (self.new.told ≡ self.old.told) × (self.new.moves ≡ self.old.moves) × (self.new.left ≡ self.old.left) × (self.new.why ≡ self.old.why) × (self.new.ticketer ≡ self.old.ticketer) }
     {
         let mut stream = stream;
-        let token = self.queue.add(at)?;
+        let Some(token) = self.queue.add(at, from) else {
+            self.queue.losses.add_closed(None);
+            return None;
+        };
         let both = Interest::READABLE | Interest::WRITABLE;
-        if self
-            .poll
-            .registry()
-            .register(&mut stream, Token(token), both)
-            .is_err()
-        {
+        let registry = self.poll.registry();
+        if let Err(e) = registry.register(&mut stream, Token(token), both) {
             self.queue.remove(token);
+            self.queue.losses.add_closed(Some(e));
             return None;
         }
         let client = peer_at(self.alloc, Ok(from));
@@ -462,13 +529,18 @@ impl<R: Clock> SocketReactor<'_, R> {
 
     /// Asks the system which sockets are ready, and waits if none is.
     fn gather(&mut self)
-        ensures { (self.new.told ≡ self.old.told) × (self.new.moves ≡ self.old.moves) × (self.new.left ≡ self.old.left) × (self.new.why ≡ self.old.why) }
+        ensures same { (self.new.told ≡ self.old.told) × (self.new.moves ≡ self.old.moves) × (self.new.left ≡ self.old.left) × (self.new.why ≡ self.old.why) }
+        ensures share { share_of self.new.ticketer self.new.left ≡ share_of self.old.ticketer self.old.left }
     {
         let patience = self.patience();
-        // After a failed wait, by a signal for example, no event is left.
-        let _asked = self.poll.poll(&mut self.events, Some(patience));
+        // After a failed wait no event is left.
+        match self.poll.poll(&mut self.events, Some(patience)) {
+            Ok(()) => self.failed = 0,
+            Err(e) => self.fails_to_wait(e),
+        }
         self.time = time_of(self.clock);
         self.seen = None;
+        self.untimed = 0;
         self.arrived = self.arrived || self.has_many_newcomers();
         self.accepted = 0;
         self.hear_events();
@@ -480,9 +552,40 @@ impl<R: Clock> SocketReactor<'_, R> {
         self.queue.begin_round();
     }
 
+    /// A wait failed. One that a signal has ended is made again at once, and any other once the next tick begins.
+    fn fails_to_wait(&mut self, e: io::Error)
+        ensures { (self.new.told ≡ self.old.told) × (self.new.moves ≡ self.old.moves) × (self.new.left ≡ self.old.left) × (self.new.why ≡ self.old.why) × (self.new.ticketer ≡ self.old.ticketer) }
+    {
+        if e.kind() == ErrorKind::Interrupted {
+            return;
+        }
+        self.failed = self.failed.saturating_add(1);
+        self.fault = Some(e);
+        thread::sleep(self.clock, self.rest_of(self.last_tick, self.tick));
+    }
+
+    /// The system can't be waited for: no connection is accepted any more, and those that sit are to end. Where it says that it may
+    /// pass, it is asked again.
+    fn gives_up_waiting(&mut self)
+        ensures same { (self.new.told ≡ self.old.told) × (self.new.moves ≡ self.old.moves) × (self.new.left ≡ self.old.left) × (self.new.ticketer ≡ self.old.ticketer) }
+        ensures why { (self.new.why ≡ self.old.why) ⊎ HasFailed self.new.why }
+    {
+        let Some(e) = self.fault else {
+            return;
+        };
+        match fault_of(&e) {
+            Fault::Lasting => {
+                self.why = Some(e);
+                self.arrived = true;
+                self.queue.leave();
+            }
+            _ => {}
+        }
+    }
+
     /// What the system told of the sockets is noted.
     fn hear_events(&mut self)
-        ensures { (self.new.told ≡ self.old.told) × (self.new.moves ≡ self.old.moves) × (self.new.left ≡ self.old.left) × (self.new.why ≡ self.old.why) }
+        ensures { (self.new.told ≡ self.old.told) × (self.new.moves ≡ self.old.moves) × (self.new.left ≡ self.old.left) × (self.new.why ≡ self.old.why) × (self.new.ticketer ≡ self.old.ticketer) }
     {
         for event in self.events.iter() {
             let Token(token) = event.token();
@@ -497,11 +600,15 @@ impl<R: Clock> SocketReactor<'_, R> {
 
     /// If the flag is set those that sit are to end, and once no connection will be accepted any more the port is closed.
     fn hear_flag(&mut self)
-        ensures { (self.new.told ≡ self.old.told) × (self.new.moves ≡ self.old.moves) × (self.new.left ≡ self.old.left) × (self.new.why ≡ self.old.why) }
+        ensures same { (self.new.told ≡ self.old.told) × (self.new.moves ≡ self.old.moves) × (self.new.left ≡ self.old.left) × (self.new.why ≡ self.old.why) }
+        ensures share { share_of self.new.ticketer self.new.left ≡ share_of self.old.ticketer self.old.left }
     {
         if is_set(self.flag) {
             self.arrived = true;
             self.queue.leave();
+        }
+        if self.queue.is_full() {
+            self.count_last(LAST_NEWCOMERS);
         }
         if self.is_over() {
             self.stop_listening();
@@ -510,7 +617,7 @@ impl<R: Clock> SocketReactor<'_, R> {
 
     /// What is due by the clock is taken up.
     fn pass_time(&mut self)
-        ensures { (self.new.told ≡ self.old.told) × (self.new.moves ≡ self.old.moves) × (self.new.left ≡ self.old.left) × (self.new.why ≡ self.old.why) }
+        ensures { (self.new.told ≡ self.old.told) × (self.new.moves ≡ self.old.moves) × (self.new.left ≡ self.old.left) × (self.new.why ≡ self.old.why) × (self.new.ticketer ≡ self.old.ticketer) }
     {
         if self.is_beat() {
             self.begin_beat();
@@ -531,14 +638,31 @@ impl<R: Clock> SocketReactor<'_, R> {
         now.duration_since(since) >= Duration::from_millis(milliseconds)
     }
 
+    /// Whether a newcomer waits for a seat, a descriptor or memory.
+    fn waits_for_room(&self) -> bool {
+        self.short.is_some() || (self.has_newcomers && self.queue.is_full())
+    }
+
+    /// Tells the log for how long newcomers have waited and for what, if that is due.
+    fn tell_wait(&mut self)
+        ensures { (self.new.told ≡ self.old.told) × (self.new.moves ≡ self.old.moves) × (self.new.left ≡ self.old.left) × (self.new.why ≡ self.old.why) × (self.new.ticketer ≡ self.old.ticketer) }
+    {
+        let waits = self.waits_for_room();
+        let Some(ticks) = self.queue.hear_wait(waits) else {
+            return;
+        };
+        let waited = self.tick.saturating_mul(ticks.min(u32::MAX as u64) as u32);
+        tell_wait(self.clock, waited.as_secs(), self.short);
+    }
+
     /// Whether a newcomer waits for a seat or a descriptor, and one might be given away.
     fn lacks_a_seat(&self) -> bool {
-        self.may_give_away && (self.is_short || (self.has_newcomers && self.queue.is_full()))
+        self.may_give_away && self.waits_for_room()
     }
 
     /// The exchanges that wait are looked at.
     fn begin_beat(&mut self)
-        ensures { (self.new.told ≡ self.old.told) × (self.new.moves ≡ self.old.moves) × (self.new.left ≡ self.old.left) × (self.new.why ≡ self.old.why) }
+        ensures { (self.new.told ≡ self.old.told) × (self.new.moves ≡ self.old.moves) × (self.new.left ≡ self.old.left) × (self.new.why ≡ self.old.why) × (self.new.ticketer ≡ self.old.ticketer) }
     {
         self.last_beat = self.time;
         self.queue.beat();
@@ -546,30 +670,37 @@ impl<R: Clock> SocketReactor<'_, R> {
 
     /// A tick has passed.
     fn begin_tick(&mut self)
-        ensures { (self.new.told ≡ self.old.told) × (self.new.moves ≡ self.old.moves) × (self.new.left ≡ self.old.left) × (self.new.why ≡ self.old.why) }
+        ensures { (self.new.told ≡ self.old.told) × (self.new.moves ≡ self.old.moves) × (self.new.left ≡ self.old.left) × (self.new.why ≡ self.old.why) × (self.new.ticketer ≡ self.old.ticketer) }
     {
         self.last_tick = self.time;
         self.arrived = true;
         self.may_give_away = true;
         self.queue.tick();
+        self.queue.losses.tell(self.clock);
+        self.tell_wait();
     }
 
     /// What may be done next. It waits for it.
     fn wait_for_one(&mut self) -> Ready
-        ensures { (self.new.told ≡ self.old.told) × (self.new.moves ≡ self.old.moves) × (self.new.left ≡ self.old.left) × (self.new.why ≡ self.old.why) }
+        ensures same { (self.new.told ≡ self.old.told) × (self.new.moves ≡ self.old.moves) × (self.new.left ≡ self.old.left) }
+        ensures why { (self.new.why ≡ self.old.why) ⊎ HasFailed self.new.why }
+        ensures share { share_of self.new.ticketer self.new.left ≡ share_of self.old.ticketer self.old.left }
     {
         for _round in 0..u64::MAX {
             if let Some(ready) = self.next_ready() {
                 return ready;
             }
             self.gather();
+            if self.failed == FAILED_IN_A_ROW {
+                self.gives_up_waiting();
+            }
         }
         Ready::Arrivals
     }
 
     /// What may be done next, if it is known.
     fn next_ready(&mut self) -> Option<Ready>
-        ensures { (self.new.told ≡ self.old.told) × (self.new.moves ≡ self.old.moves) × (self.new.left ≡ self.old.left) × (self.new.why ≡ self.old.why) }
+        ensures { (self.new.told ≡ self.old.told) × (self.new.moves ≡ self.old.moves) × (self.new.left ≡ self.old.left) × (self.new.why ≡ self.old.why) × (self.new.ticketer ≡ self.old.ticketer) }
     {
         if self.arrived {
             self.arrived = false;
@@ -582,8 +713,8 @@ impl<R: Clock> SocketReactor<'_, R> {
         if let Some(ready) = self.queue.next() {
             return Some(ready);
         }
-        if self.is_short && self.queue.has_freed() {
-            self.is_short = false;
+        if self.short.is_some() && self.queue.has_freed() {
+            self.short = None;
             return Some(Ready::Arrivals);
         }
         None
@@ -598,16 +729,6 @@ fn time_of<R: Clock>(clock: &R) -> Option<Instant> {
     }
 }
 
-/// Whether there is a quota, and no connection of it is left.
-fn is_spent(quota: Option<&Quota>) -> bool
-    ensures yes { IsTrue result → IsSome quota.entry }
-{
-    match quota {
-        Some(quota) => quota.is_over(),
-        None => false,
-    }
-}
-
 /// Whether there is a flag, and it is set.
 fn is_set(flag: Option<&AtomicBool>) -> bool
     ensures yes { IsTrue result → IsSome flag.entry }
@@ -618,27 +739,27 @@ fn is_set(flag: Option<&AtomicBool>) -> bool
     }
 }
 
-impl<R: Clock> Reactor for SocketReactor<'_, R> {
+impl<R: Clock + Log> Reactor for SocketReactor<'_, R> {
     type L = PolledLine;
 
     ghost answers = { λ r. r.told.items };
 
     ghost moves = { λ r. r.moves.items };
 
-    ghost Kept = { ℕ };
+    ghost Kept = { ℕ × Share };
 
-    // At most the number that it was told are accepted.
-    ghost kept = { λ r. in_all r.told.items r.left };
+    // At most the number that it was told are accepted, each for a ticket if there is a quota.
+    ghost kept = { λ r. kept_in r.told.items r.left r.ticketer };
 
     fn try_next(&mut self, at: usize) -> Next<PolledLine>
         ensures told { self.new.told.items ≡ self.old.told.items ++ result ∷ [] }
         ensures moves { self.new.moves.items ≡ self.old.moves.items ++ asked_by result ∷ [] }
         ensures some { IfArrived result (λ _. (self.old.left ≡ self.new.left + 1) × (self.new.why ≡ None)) }
         ensures none { IsNone result → self.new.left ≡ self.old.left }
-        ensures ever { IsNoneEver result → IsOver self.new.left self.new.why self.new.flag self.new.quota }
+        ensures ever { IsNoneEver result → IsOver self.new.left self.new.why self.new.flag self.new.ticketer }
         ensures closed { IsNoneEver result → self.new.listener ≡ None }
         ensures why { (self.new.why ≡ self.old.why) ⊎ HasFailed self.new.why }
-        ensures kept { in_all self.new.told.items self.new.left ≡ in_all self.old.told.items self.old.left }
+        ensures kept { kept_in self.new.told.items self.new.left self.new.ticketer ≡ kept_in self.old.told.items self.old.left self.old.ticketer }
     {
         let next = self.accept(at);
         self.told = History::with(&self.told, &next);
@@ -657,7 +778,11 @@ impl<R: Clock> Reactor for SocketReactor<'_, R> {
     }
 
     fn again(&mut self, at: usize) {
-        self.seen = time_of(self.clock);
+        self.untimed = self.untimed.saturating_add(1);
+        if self.untimed > UNTIMED {
+            self.untimed = 0;
+            self.seen = time_of(self.clock);
+        }
         if self.has_gone_on_for(LONG_ROW) {
             self.queue.end_row();
         }
@@ -666,9 +791,6 @@ impl<R: Clock> Reactor for SocketReactor<'_, R> {
 
     fn rests(&mut self, at: usize, line: &PolledLine, rest: Rest) {
         self.queue.rests(at, line, rest);
-        if let Some(polled) = socket_of(line) {
-            let _all = polled.push();
-        }
     }
 
     fn close(&mut self, at: usize, line: PolledLine) {

@@ -11,7 +11,11 @@ struct Narrow {
     most: usize,
     is_full: bool,
     fails: bool,
+    is_short: bool,
 }
+
+/// The error of a send for which memory is short: ENOBUFS.
+const SHORT: i32 = 105;
 
 impl Narrow {
     fn new(alloc: Global, most: usize) -> Result<Self, AllocError> {
@@ -20,6 +24,7 @@ impl Narrow {
             most,
             is_full: false,
             fails: false,
+            is_short: false,
         })
     }
 }
@@ -28,6 +33,9 @@ impl Write for Narrow {
     fn write(&mut self, buf: &[u8]) -> io::Result<usize> {
         if self.fails {
             return Err(io::Error::from(ErrorKind::BrokenPipe));
+        }
+        if self.is_short {
+            return Err(io::Error::from_raw_os_error(SHORT));
         }
         if self.is_full {
             self.is_full = false;
@@ -145,6 +153,25 @@ fn stays(alloc: Global) -> io::Result<bool> {
 #[test]
 fn bytes_stay_as_the_stream_fails(rt: HostRuntime) -> Result<(), Fail> {
     assert!(rt; stays(rt.alloc())?);
+    Ok(())
+}
+
+/// Whether what is written while memory is short waits, and comes out once it is not.
+fn waits_for_memory(alloc: Global) -> io::Result<bool> {
+    let mut stream = Narrow::new(alloc, 4)?;
+    let mut held = Held::new(alloc);
+    stream.is_short = true;
+    let first = is_all(&held.write(&mut stream, b"abc")?);
+    let second = is_all(&held.write(&mut stream, b"d")?);
+    let waits = stream.written.is_empty() && held.len() == 4;
+    stream.is_short = false;
+    let pushed = held.push(&mut stream)?;
+    Ok(first && second && waits && pushed && stream.written.as_slice() == b"abcd".as_slice())
+}
+
+#[test]
+fn bytes_wait_while_buffers_are_short(rt: HostRuntime) -> Result<(), Fail> {
+    assert!(rt; waits_for_memory(rt.alloc())?);
     Ok(())
 }
 
