@@ -3,6 +3,7 @@
 
 mod asks;
 mod channel;
+mod common;
 mod gather;
 mod give;
 mod run;

@@ -11,12 +11,13 @@ ghost use Rattle.asgi_crew.specs.Shared.{IsShared};
 ghost use Rattle.asgi_crew.specs.declared.give.End.TheVariants.{NoThread};
 
 use crate::asks::Asks;
-use crate::channel::{Fair, From, Hand, Knows, Mark, To};
+use crate::channel::{Fair, From, Hand, Mark};
+use crate::common::{Common, Held};
 use crate::gather::settle;
 use crate::give::End;
 use crate::run::{Crew, run};
 use crate::serves::Serves;
-use asgi_desk::{Desk, Seat, Teller};
+use asgi_desk::{Desk, Teller};
 use asgi_io::History;
 use crossbeam_channel::bounded_with;
 use std::alloc::Global;
@@ -58,48 +59,40 @@ fn run_scoped<
     E: Asks<G, C> + Serves<W, C, Report = N> + Sync,
     R: Threads + Wait + Sync,
 >(
-    rt: &R,
-    alloc: Global,
-    how: &E,
-    from: &From<C, N>,
-    to: &To<C, N>,
-    desk: &Desk<N, T>,
+    common: &Common<'_, From<C, N>, Desk<N, T>, E, R>,
     giver: &mut G,
-    pass: Knows<C, N>,
-    seat: Seat<N, T>,
+    held: Held<'_, C, N, T>,
     crew: Vec<W>,
 ) -> Crew<C, N, W, T>
-    requires seat { IsSeatAt (sends_on to.now) pass × IsSeatOf desk.now seat × (receives_on from.now ≡ sends_on to.now) }
-    requires may { (view pass ≡ hand 64 1 [] [] 0 0) × (knows seat ≡ seated 64 (knows seat).first []) × (vec_len crew ≤ 8) }
-    ensures seat { IsSeatAt (sends_on to.now) result.pass × IsSeatOf desk.now result.seat }
+    requires seat { IsSeatAt (sends_on held.to.now) held.pass × IsSeatOf common.now.desk.now held.seat × (receives_on common.now.from.now ≡ sends_on held.to.now) }
+    requires may { (view held.pass ≡ hand 64 1 [] [] 0 0) × (knows held.seat ≡ seated 64 (knows held.seat).first []) × (vec_len crew ≤ 8) }
+    ensures seat { IsSeatAt (sends_on held.entry.to.now) result.pass × IsSeatOf common.now.desk.now result.seat }
     ensures part { ((view result.pass).gives ≡ 1) × ((view result.pass).parts ≡ 64) }
-    ensures free { knows result.seat ≡ seated 64 (knows seat).first (knows result.seat).put }
+    ensures free { knows result.seat ≡ seated 64 (knows held.entry.seat).first (knows result.seat).put }
     ensures ended { HaveEnded result.end (vec_len crew) (view result.pass).ended }
     ensures stopped { (view result.pass).shut ≡ (view result.pass).ended }
-    ensures ran { Ran (E.serves how.now) (E.answers giver.old) (E.answers giver.new) (last_of result.end) crew.items result.crew.items (knows result.seat).put (view result.pass) }
+    ensures ran { Ran (E.serves common.now.how.now) (E.answers giver.old) (E.answers giver.new) (last_of result.end) crew.items result.crew.items (knows result.seat).put (view result.pass) }
     ensures refused { result.end ≡ NoThread → E.answers giver.new ≡ E.answers giver.old }
     ensures source { E.source giver.new ≡ E.source giver.old }
 {
     let lent = &mut *giver;
     let (lent, ended) = thread::scope(
         thread::scope_env(),
-        rt,
+        common.rt,
         move |scope| -> (&mut G, Crew<C, N, W, T>)
-            requires seat { IsSeatAt (sends_on to.now) pass × IsSeatOf desk.now seat × (receives_on from.now ≡ sends_on to.now) }
-            requires may { (view pass ≡ hand 64 1 [] [] 0 0) × (knows seat ≡ seated 64 (knows seat).first []) × (vec_len crew ≤ 8) }
+            requires seat { IsSeatAt (sends_on held.to.now) held.pass × IsSeatOf common.now.desk.now held.seat × (receives_on common.now.from.now ≡ sends_on held.to.now) }
+            requires may { (view held.pass ≡ hand 64 1 [] [] 0 0) × (knows held.seat ≡ seated 64 (knows held.seat).first []) × (vec_len crew ≤ 8) }
             ensures same { result.0.ghost_name ≡ lent.entry.ghost_name }
-            ensures seat { IsSeatAt (sends_on to.entry.now) result.1.pass × IsSeatOf desk.entry.now result.1.seat }
+            ensures seat { IsSeatAt (sends_on held.entry.to.now) result.1.pass × IsSeatOf common.entry.now.desk.now result.1.seat }
             ensures part { ((view result.1.pass).gives ≡ 1) × ((view result.1.pass).parts ≡ 64) }
-            ensures free { knows result.1.seat ≡ seated 64 (knows seat).first (knows result.1.seat).put }
+            ensures free { knows result.1.seat ≡ seated 64 (knows held.entry.seat).first (knows result.1.seat).put }
             ensures ended { HaveEnded result.1.end (vec_len crew) (view result.1.pass).ended }
             ensures stopped { (view result.1.pass).shut ≡ (view result.1.pass).ended }
-            ensures ran { Ran (E.serves how.entry.now) (E.answers lent.entry.now) (E.answers result.0.now) (last_of result.1.end) crew.items result.1.crew.items (knows result.1.seat).put (view result.1.pass) }
+            ensures ran { Ran (E.serves common.entry.now.how.now) (E.answers lent.entry.now) (E.answers result.0.now) (last_of result.1.end) crew.items result.1.crew.items (knows result.1.seat).put (view result.1.pass) }
             ensures refused { result.1.end ≡ NoThread → E.answers result.0.now ≡ E.answers lent.entry.now }
             ensures source { E.source result.0.now ≡ E.source lent.entry.now }
         {
-            let ended = run(
-                rt, scope, alloc, how, from, to, desk, &mut *lent, pass, seat, crew, 0,
-            );
+            let ended = run(scope, common, &mut *lent, held, crew, 0);
             (lent, ended)
         },
     );
@@ -147,12 +140,24 @@ pub fn share<
         Ok(opened) => opened,
         Err(refused) => return not_begun(crew, refused.value),
     };
+    let common = Common {
+        rt,
+        how,
+        from: &from,
+        desk: &desk,
+    };
+    let held = Held {
+        alloc,
+        to: &to,
+        pass,
+        seat,
+    };
     let Crew {
         pass,
         seat,
         crew,
         end,
-    } = run_scoped(rt, alloc, how, &from, &to, &desk, giver, pass, seat, crew);
+    } = run_scoped(&common, giver, held, crew);
     settle(&to, pass);
     let (teller, reports) = desk.close(rt, seat);
     Shared {

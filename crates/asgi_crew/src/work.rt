@@ -8,6 +8,7 @@ ghost use Rattle.asgi_crew.specs.private.Channel.{hand, took};
 ghost use Rattle.asgi_crew.specs.Shared.{InTurn};
 
 use crate::channel::{From, Knows, Mark, Takes, Task};
+use crate::common::Common;
 use crate::serves::Serves;
 use asgi_desk::{Desk, Seat, Teller};
 use std::sync::Wait;
@@ -38,31 +39,29 @@ fn take<C: Drop, N: Drop, R: Wait>(rt: &R, from: &From<C, N>, pass: &mut Knows<C
 /// Serves items until a stop comes, and hands in a report of each.
 #[tactic(auto, using(crate::proofs::Turns::served_next))]
 pub fn work<C: Drop, N: Drop, W: Drop, T: Teller<N> + Drop, E: Serves<W, C, Report = N>, R: Wait>(
-    rt: &R,
-    how: &E,
-    from: &From<C, N>,
-    desk: &Desk<N, T>,
+    common: &Common<'_, From<C, N>, Desk<N, T>, E, R>,
     mut pass: Knows<C, N>,
     mut seat: Seat<N, T>,
     mut worker: W,
 ) -> Worked<C, N, W, T>
-    requires seat { IsSeatAt (receives_on from.now) pass × IsSeatOf desk.now seat }
+    requires seat { IsSeatAt (receives_on common.now.from.now) pass × IsSeatOf common.now.desk.now seat }
     requires fresh { (view pass ≡ hand 1 0 [] [] 0 0) × (knows seat ≡ seated 1 (knows seat).first []) }
-    ensures seat { IsSeatAt (receives_on from.now) result.pass × IsSeatOf desk.now result.seat }
+    ensures seat { IsSeatAt (receives_on common.now.from.now) result.pass × IsSeatOf common.now.desk.now result.seat }
     ensures part { view result.pass ≡ hand 1 0 [] (view result.pass).taken 0 1 }
     ensures free { knows result.seat ≡ seated 1 (knows seat).first (knows result.seat).put }
-    ensures in_turn { InTurn (E.serves how.now) worker result.worker (view result.pass).taken (knows result.seat).put }
+    ensures in_turn { InTurn (E.serves common.now.how.now) worker result.worker (view result.pass).taken (knows result.seat).put }
 {
-    for _ in rt.forever() {
-        match take(rt, from, &mut pass) {
+    for _ in common.rt.forever() {
+        match take(common.rt, common.from, &mut pass) {
             Mark::Item(task) => {
                 let Task {
                     number,
                     item,
                     place,
                 } = task;
-                let report = how.serve(&mut worker, item);
-                desk.hand_in(rt, &mut seat, number, report, place);
+                let report = common.how.serve(&mut worker, item);
+                let desk = common.desk;
+                desk.hand_in(common.rt, &mut seat, number, report, place);
             }
             Mark::Stop => return Worked { pass, seat, worker },
         }

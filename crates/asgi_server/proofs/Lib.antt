@@ -1,3 +1,2 @@
 pub mod AcceptLemmas
-pub mod PromiseLemmas
 pub mod StationLemmas

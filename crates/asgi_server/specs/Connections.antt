@@ -1,11 +1,7 @@
 -- What a server promises of its connections: each one that the listener gave is served once, and has one report.
 use Rattle.std.specs.Prelude.{◌≡◌, ℕ, List, [], ◌∷◌, ◌++◌, Option, Some, None}
-use Rattle.asgi_types.specs.declared.end_kind.EndKind.{EndKind}
-use Rattle.asgi_types.specs.declared.incoming.Incoming.{Incoming}
 use Rattle.asgi_types.specs.declared.limits.Limits.{Limits}
-use Rattle.asgi_types.specs.declared.outgoing.Outgoing.{Outgoing}
 use Rattle.asgi_types.specs.declared.scope.Peer.{Peer}
-use Rattle.asgi_types.specs.declared.scope.Scope.{Scope}
 use Rattle.asgi_types.specs.declared.state.StateValue.{StateValue}
 use Rattle.asgi_conversation.specs.declared.report.Report.{Report}
 use Rattle.asgi_ws.specs.Lines.{LineState}
@@ -41,9 +37,3 @@ ServesNext line_state answers limits state asked_old asked_new before after (Som
 -- One connection was served by a worker, whose count of pauses rose from `before` to `after`, and this is the report.
 abbrev pub served_by : {L : Type 0} → (L → LineState) → Promise → Limits → List (List ℕ × StateValue) → ℕ → ℕ → Given L → Report → Type 0
 served_by line_state answers limits state before after given report = IsServed answers limits state (arrived line_state given) before after report
-
--- ---- what an engine promises of an application
-
--- whatever is so by the one promise is so by the other
-pub record PromisesWithin (one other : Promise) : Type 0 where
-  pub within : (scope : Scope) (heard : List Incoming) (said : List Outgoing) (ended : Option EndKind) → one scope heard said ended → other scope heard said ended

@@ -1,13 +1,11 @@
 //! What a worker serves its connections with.
 ghost use Rattle.std.specs.Prelude.{◌≡◌, ℕ};
 ghost use Rattle.asgi_apps.specs.Promises.{Promise};
-ghost use Rattle.asgi_server.specs.Connections.{IsServed, PromisesWithin, arrived};
+ghost use Rattle.asgi_server.specs.Connections.{IsServed, arrived};
 
-use asgi_apps::Application;
-use asgi_conn::{Host, Napping, Report};
+use asgi_conn::Report;
 use asgi_types::{Limits, Peer, State};
 use asgi_ws::Line;
-use futures::task::Solo;
 use std::alloc::AllocGlobal;
 
 /// What a worker serves its connections with, by an application of this type. It is the worker's own, and goes to its thread.
@@ -36,15 +34,4 @@ pub trait Engine<A> {
 
     /// Ends what it keeps from one connection to the next, and waits for that.
     fn end(self);
-}
-
-/// An engine that has no thread beside its worker's, and so can be made anywhere.
-pub trait Threadless<A: Application, R: Host>: Engine<A> + Sized {
-    /// One of a thread's own runner of tasks, and of its pause, which is made by a function: the method of a trait can't make what
-    /// goes to a thread.
-    fn of(solo: Solo, pause: Napping<R>) -> Self
-        ensures { Self.Engine.pauses result ≡ pause.count };
-
-    // What is so by its promise is so by the application's.
-    ghost keeps: { (app : A) → PromisesWithin (Self.Engine.answers app) (A.answers app) };
 }

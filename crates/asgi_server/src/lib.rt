@@ -3,7 +3,6 @@
 
 mod accepting;
 mod engine;
-mod inline_station;
 mod listener;
 mod listening;
 mod no_station;
@@ -19,8 +18,7 @@ mod waiting;
 
 pub use asgi_crew::{End, Shared, Teller, Workers};
 pub use asgi_lifespan::{Lifespan, Start, Stop};
-pub use engine::{Engine, Threadless};
-pub use inline_station::InlineStation;
+pub use engine::Engine;
 pub use listener::{Accepts, Listener};
 pub use listening::Listening;
 pub use no_station::NoStation;
@@ -30,5 +28,5 @@ pub use serving::serve_next;
 pub use sharing::serve_all;
 pub use socket::Socket;
 pub use sockets::Sockets;
-pub use station::{BesideStation, Station, end_stations, stations, threadless_stations};
+pub use station::{BesideStation, Station, end_stations, stations};
 pub use waiting::Waiting;

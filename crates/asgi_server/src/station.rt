@@ -1,8 +1,7 @@
 //! What each worker serves its connections with, how it is made, and how it ends.
 ghost use Rattle.std.specs.Prelude.{◌≡◌, ◌+◌, ◌<◌, [], ◌∷◌, ◌++◌, All, true, is_some, vec_len, vec_capacity, IfOk, IsOk};
 
-use crate::engine::{Engine, Threadless};
-use crate::inline_station::make_parts;
+use crate::engine::Engine;
 use crate::no_station::NoStation;
 use crate::serving::serve;
 use asgi_apps::{AppTask, Application};
@@ -107,39 +106,6 @@ fn make_station<T: AppTask + Send + 'static, R: Host>(
         Ok(()) => Ok(Station { runner, pause }),
         Err(_) => Err(NoStation::NoThread),
     }
-}
-
-/// An engine for each worker that has no thread beside it. `end_stations` ends them.
-pub fn threadless_stations<A: Application, R: Host, G: Threadless<A, R> + Drop>(
-    rt: R,
-    workers: Workers,
-) -> Result<Vec<G>, NoStation>
-    ensures many { IfOk result (λ list. vec_len list ≡ workers.count) }
-    ensures fresh { IfOk result (λ list. All (λ s. G.pauses s ≡ 0) list.items) }
-{
-    let mut made = Vec::new(rt.alloc());
-    for _engine in 0..workers.count() {
-        if let Err(why) = add_threadless::<A, R, G>(rt, &mut made) {
-            end_stations::<A, G>(made);
-            return Err(why);
-        }
-    }
-    Ok(made)
-}
-
-/// Adds one more of them.
-fn add_threadless<A: Application, R: Host, G: Threadless<A, R> + Drop>(
-    rt: R,
-    made: &mut Vec<G>,
-) -> Result<(), NoStation>
-    requires { All (λ s. G.pauses s ≡ 0) made.old.items }
-    ensures many { IsOk result → vec_len made.new ≡ vec_len made.old + 1 }
-    ensures fresh { All (λ s. G.pauses s ≡ 0) made.new.items }
-{
-    made.reserve(1)?;
-    let (solo, pause) = make_parts(rt)?;
-    put(made, G::of(solo, pause));
-    Ok(())
 }
 
 /// Puts a station after the others, for which there is room.

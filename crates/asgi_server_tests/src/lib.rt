@@ -6,8 +6,6 @@ mod ahead;
 #[cfg(test)]
 mod ends;
 #[cfg(test)]
-mod inline;
-#[cfg(test)]
 mod lives;
 #[cfg(test)]
 mod loopback;

@@ -125,7 +125,7 @@ pub fn serve<
 }
 
 /// The same by these engines.
-pub fn serve_with<
+fn serve_with<
     H: Host + Sync,
     A: Send + Sync,
     L: Line + Drop + Send,
@@ -160,25 +160,6 @@ pub fn serve_with<
         return Ok(reports);
     }
     Err(AllocError)
-}
-
-/// Serves a connection for each output, with these inputs in turn, by these engines.
-pub fn serve_feed_with<H: Host + Sync, A: Send + Sync, G: Engine<A> + Drop + Send>(
-    rt: &H,
-    app: &A,
-    state: &State,
-    inputs: &[&[u8]],
-    outputs: &mut [Vec<u8>],
-    limits: &Limits,
-    workers: Workers,
-    list: Vec<G>,
-) -> Result<Vec<(u64, Report)>, AllocError>
-    requires { vec_len list ≡ workers.count }
-{
-    let mut feed = Feed::new(rt.alloc(), inputs, outputs);
-    let reports = serve_with(rt, app, state, &mut feed, limits, workers, list);
-    drop(feed);
-    reports
 }
 
 /// Serves a connection for each output, with these inputs in turn, by this many workers.

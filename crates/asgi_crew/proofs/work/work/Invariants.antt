@@ -9,8 +9,8 @@ use Rattle.asgi_crew.proofs.work.work.Given as goal
 
 abbrev pub invariant-loop : goal.invariant-loop
 invariant-loop g l = record {
-  seat : IsSeatAt (receives_on l.from) l.pass × IsSeatOf l.desk l.seat;
+  seat : IsSeatAt (receives_on l.common.from.now) l.pass × IsSeatOf l.common.desk.now l.seat;
   part : view l.pass ≡ hand 1 0 [] (view l.pass).taken 0 0;
   free : knows l.seat ≡ seated 1 (knows l.fn.seat).first (knows l.seat).put;
-  in_turn : InTurn (g.E.Serves.serves l.fn.how) l.fn.worker l.worker (view l.pass).taken (knows l.seat).put;
+  in_turn : InTurn (g.E.Serves.serves l.fn.common.how.now) l.fn.worker l.worker (view l.pass).taken (knows l.seat).put;
 }

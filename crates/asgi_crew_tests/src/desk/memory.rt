@@ -1,7 +1,7 @@
 //! Memory refused to a desk. `tests/memory.py` runs this with each allocation refused in turn; with ample memory none is
 //! refused.
 
-use crate::orders::tells;
+use crate::desk::orders::tells;
 use std::test::Fail;
 
 /// Only one allocation is refused, so of two tries one succeeds.

@@ -1,6 +1,6 @@
 //! One thread hands in reports in many orders: the teller gets each as soon as all those before it are there.
 
-use crate::fakes::{Listener, has_got, told};
+use crate::desk::fakes::{Listener, has_got, told};
 use std::alloc::{AllocError, AllocGlobal, Global};
 use std::process::Abort;
 use std::sync::Wait;

@@ -1,6 +1,6 @@
 //! A teller that only borrows what it writes to.
 
-use crate::fakes::told;
+use crate::desk::fakes::told;
 use asgi_desk::Teller;
 use std::alloc::Global;
 use std::sync::atomic::{AtomicU64, Ordering};

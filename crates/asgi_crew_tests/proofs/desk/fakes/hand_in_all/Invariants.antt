@@ -2,7 +2,7 @@ use Rattle.std.proofs.Common.{◌≡◌, ◌<◌, ◌++◌, take}
 use Rattle.asgi_desk.specs.Told.{numbers_of}
 use Rattle.asgi_desk.specs.Hands.{seated}
 use Rattle.asgi_desk.specs.Seat.{knows, IsSeatOf}
-use Rattle.asgi_desk_tests.proofs.fakes.hand_in_all.Given as goal
+use Rattle.asgi_crew_tests.proofs.desk.fakes.hand_in_all.Given as goal
 
 abbrev pub invariant-loop-index : goal.invariant-loop-index
 invariant-loop-index g l = record {

@@ -6,7 +6,7 @@ ghost use Rattle.asgi_desk.specs.Told.{numbers_of, one_to};
 ghost use Rattle.asgi_desk.specs.Hands.{seated, IsFree};
 ghost use Rattle.asgi_desk.specs.Seat.{knows, IsSeatOf};
 
-use crate::fakes::{Listener, hand_in_all, has_got, is_one_to};
+use crate::desk::fakes::{Listener, hand_in_all, has_got, is_one_to};
 use asgi_desk::{Desk, Seat, Teller};
 use std::alloc::{AllocError, AllocGlobal, Global};
 use std::process::Abort;

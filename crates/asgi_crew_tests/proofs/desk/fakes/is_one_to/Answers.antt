@@ -1,7 +1,7 @@
 use Rattle.std.proofs.Common.{List, ℕ, sym, subst, arith}
 use Rattle.std.specs.List.Sorted.{IsPermutation}
-use Rattle.asgi_desk_tests.proofs.Counting.{are_one_to}
-use Rattle.asgi_desk_tests.proofs.fakes.is_one_to.Goals as goal
+use Rattle.asgi_crew_tests.proofs.Counting.{are_one_to}
+use Rattle.asgi_crew_tests.proofs.desk.fakes.is_one_to.Goals as goal
 
 pub returns : goal.returns
 returns c = λ all.
