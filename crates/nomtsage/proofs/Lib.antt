@@ -3,4 +3,5 @@ pub mod LivesLemmas
 pub mod RunLemmas
 pub mod SeatsLemmas
 pub mod TablesLemmas
+pub mod TicketsLemmas
 pub mod OneThread

@@ -1,5 +1,5 @@
--- What came after the answer to the start is what the server promises.
-use Rattle.std.proofs.Common.{◌≡◌, ◌⊎◌, ◌∙◌, inl, inr, ap, ℕ, List, [], Option, Some, None, subst, sym}
+-- What was served between a start and its stop is what the server promises.
+use Rattle.std.proofs.Common.{◌≡◌, ◌⊎◌, ◌∙◌, inl, inr, ap, refl, ℕ, List, [], Option, Some, None, subst, sym}
 use Rattle.asgi_types.specs.declared.end_kind.EndKind.{EndKind}
 use Rattle.asgi_types.specs.declared.incoming.Incoming.{Incoming}
 use Rattle.asgi_types.specs.declared.limits.Limits.{Limits}
@@ -9,6 +9,7 @@ use Rattle.asgi_types.specs.declared.state.StateValue.{StateValue}
 use Rattle.asgi_apps.specs.Promises.{Promise}
 use Rattle.asgi_lifespan.specs.declared.lifespan.Start.{Start}
 use Rattle.asgi_lifespan.specs.declared.lifespan.Start.TheVariants as start
+use Rattle.asgi_lifespan.specs.declared.lifespan.Lifespan.{Lifespan}
 use Rattle.asgi_lifespan.specs.declared.stop.Stop.{Stop}
 use Rattle.asgi_lifespan.specs.declared.stop.Stop.TheVariants as stop
 use Rattle.asgi_lifespan.specs.Facts.{lifespan_scope}
@@ -17,8 +18,11 @@ use Rattle.asgi_lifespan.specs.Starting.{Starts, PromiseOf, IsNoMemory, turns_in
 use Rattle.asgi_lifespan.specs.Stopping.{Stops}
 use Rattle.nomtsage.specs.declared.ending.Ending.{Ending}
 use Rattle.nomtsage.specs.declared.ending.Served.{Served}
-use Rattle.nomtsage.specs.Serving.{LivesOrNot, Follows, ending_of}
-use Rattle.nomtsage.specs.private.Following.{FollowsStart}
+use Rattle.nomtsage.specs.declared.living.Begun.{Begun}
+use Rattle.nomtsage.specs.declared.living.Begun.TheVariants as begun
+use Rattle.nomtsage.specs.declared.living.Living.{Living}
+use Rattle.nomtsage.specs.Serving.{LivesOn, LivesOrNot, Follows, ending_of}
+use Rattle.nomtsage.specs.private.Living.{Begins, EndsBy, IsBegun, IsStopped}
 
 -- in the one case nothing was counted
 pub uncounted : {A B P : Type 0} (count : P → ℕ) (was is : P) → (A × (is ≡ was)) ⊎ B → (A × (count is ≡ count was)) ⊎ B
@@ -41,12 +45,29 @@ kept_within one other limits heard said before after answer within x = record {
   turns = x.turns;
 }
 
+-- how a server ended by the stop of what it served,
+pub ends_stopped : {T : Type 0} {g : tasks.Ghosts T} (lifespan : Option (Lifespan T g)) (life : Lifespan T g) (before after : ℕ) (how : Served) (ends : Ending) (answer : Stop)
+    → lifespan ≡ Some life → ((limits : Limits) → IsStopped limits life before after answer) → ends ≡ ending_of how answer → EndsBy lifespan before after how ends
+ends_stopped lifespan life before after how ends answer same stopped is = subst (λ l. EndsBy l before after how ends) (sym same) (answer, stopped, is)
+
+-- and with no lifespan
+pub ends_unstopped : {T : Type 0} {g : tasks.Ghosts T} (lifespan : Option (Lifespan T g)) (before : ℕ) (how : Served) (ends : Ending)
+    → lifespan ≡ None → ends ≡ ending_of how stop.Stopped → EndsBy lifespan before before how ends
+ends_unstopped lifespan before how ends same is = subst (λ l. EndsBy l before before how ends) (sym same) (refl, is)
+
+-- the answer to the start has another name
+pub begins_so : {T R : Type 0} {g : tasks.Ghosts T} {P : Type 0} (count : P → ℕ) (was is : P) (answers : Promise) (limits : Limits) (answer named : Start T g) (found : Begun T R g)
+    → (IsNoMemory answer × (is ≡ was)) ⊎ Starts (answers lifespan_scope) limits (count was) (count is) answer → answer ≡ named → IsBegun named (count is) found
+    → Begins answers limits (count was) found
+begins_so count was is answers limits answer named found starts same so =
+    (answer, count is, uncounted count was is starts, subst (λ a. IsBegun a (count is) found) (sym same) so)
+
 module _ {A T : Type 0} (serves : List (List ℕ × StateValue) → A → A → Served → Type 0) (answers : Promise) (limits : Limits) (g : tasks.Ghosts T)
     (old new : A) (before between after : ℕ) (ends : Ending) where
-  -- an application that was started like this, and what came next
-  lives_by : (answer : Start T g) (x : Starts (answers lifespan_scope) limits before between answer)
-      → Follows serves answers limits (start_answer x.said x.ended) x.heard x.said old new between after ends → LivesOrNot serves answers limits old new before after ends
-  lives_by answer x follows = inl record {
+  -- an application that was started like this, and what came after its answer
+  follows_by : (answer : Start T g) (told : Option StartAnswer) (x : Starts (answers lifespan_scope) limits before between answer) → start_answer x.said x.ended ≡ told
+      → Follows serves answers limits told x.heard x.said old new between after ends → LivesOrNot serves answers limits old new before after ends
+  follows_by answer told x is follows = inl record {
     heard = x.heard;
     said = x.said;
     ended = x.ended;
@@ -56,41 +77,55 @@ module _ {A T : Type 0} (serves : List (List ℕ × StateValue) → A → A → 
     gave_up = turns_in answer;
     between = between;
     turns = x.turns;
-    follows = follows;
+    follows = subst (λ a. Follows serves answers limits a x.heard x.said old new between after ends) (sym is) follows;
   }
 
-  -- the same by what came after its answer
-  follows_by : (answer : Start T g) (told : Option StartAnswer) (x : Starts (answers lifespan_scope) limits before between answer) → start_answer x.said x.ended ≡ told
-      → Follows serves answers limits told x.heard x.said old new between after ends → LivesOrNot serves answers limits old new before after ends
-  follows_by answer told x is follows =
-      lives_by answer x (subst (λ a. Follows serves answers limits a x.heard x.said old new between after ends) (sym is) follows)
+  -- it was served, and stopped
+  lived : {R : Type 0} (answer : Start T g) → (IsNoMemory answer × (between ≡ before)) ⊎ Starts (answers lifespan_scope) limits before between answer
+      → (living : Living T R g) (state : List (List ℕ × StateValue)) → IsBegun answer between (begun.Lives living state)
+      → (how : Served) → serves state old new how → EndsBy living.lifespan living.pause.count after how ends → LivesOrNot serves answers limits old new before after ends
+  lived (start.Started life set) (inl none) living state is how served stops = absurd none.0
+  lived (start.Started life set) (inr x) living state (same, named, paused) how served stops =
+      let (answer, stopped, end) = subst (λ l. EndsBy l between after how ends) same (subst (λ n. EndsBy living.lifespan n after how ends) paused stops) in
+      follows_by (start.Started life set) (Some (started set)) x x.answered (
+        how,
+        answer,
+        subst (λ s. serves s old new how) named served,
+        kept_within (PromiseOf life) (answers lifespan_scope) limits x.heard x.said between after answer x.stands.1 (stopped limits x.heard x.said x.ended x.stands.0),
+        end,
+      )
+  lived start.Unsupported (inl none) living state is how served stops = absurd none.0
+  lived start.Unsupported (inr x) living state (same, named, paused) how served stops =
+      let (rests, end) = subst (λ l. EndsBy l between after how ends) same (subst (λ n. EndsBy living.lifespan n after how ends) paused stops) in
+      follows_by start.Unsupported (Some unsupported) x x.answered (how, subst (λ s. serves s old new how) named served, rests, end)
+  lived (start.Failed message) starts living state is how served stops = absurd is
+  lived (start.Idle turns) starts living state is how served stops = absurd is
+  lived start.NoMemory starts living state is how served stops = absurd is
 
-  -- what comes after each answer
-  pub lives_of : (answer : Start T g) → (IsNoMemory answer × (between ≡ before)) ⊎ Starts (answers lifespan_scope) limits before between answer
-      → FollowsStart serves limits answer old new between after ends → LivesOrNot serves answers limits old new before after ends
-  lives_of (start.Started life state) (inl none) f = absurd none.0
-  lives_of (start.Started life state) (inr x) f =
-      follows_by (start.Started life state) (Some (started state)) x x.answered
-      (f.0, f.1, f.2, kept_within (PromiseOf life) (answers lifespan_scope) limits x.heard x.said between after f.1 x.stands.1 (f.3 x.heard x.said x.ended x.stands.0), f.4)
-  lives_of start.Unsupported (inl none) f = absurd none.0
-  lives_of start.Unsupported (inr x) f = follows_by start.Unsupported (Some unsupported) x x.answered f
-  lives_of (start.Failed message) (inl none) f = absurd none.0
-  lives_of (start.Failed message) (inr x) f = follows_by (start.Failed message) (Some (failed message)) x x.answered f
-  lives_of (start.Idle turns) (inl none) f = absurd none.0
-  lives_of (start.Idle turns) (inr x) f = follows_by (start.Idle turns) None x x.answered f
-  lives_of start.NoMemory (inl none) f = inr (f.0, f.1 ∙ none.1, f.2)
-  lives_of start.NoMemory (inr x) f = absurd x.answered
+module _ {A T : Type 0} (serves : List (List ℕ × StateValue) → A → A → Served → Type 0) (answers : Promise) (limits : Limits) (g : tasks.Ghosts T) (R : Type 0)
+    (old new : A) (before between : ℕ) (ends : Ending) where
+  -- it was not served, and nothing was asked for
+  unserved : (answer : Start T g) → (IsNoMemory answer × (between ≡ before)) ⊎ Starts (answers lifespan_scope) limits before between answer
+      → IsBegun {R = R} answer between (begun.Ends ends) → new ≡ old → LivesOrNot serves answers limits old new before between ends
+  unserved (start.Started life set) starts is same = absurd is
+  unserved start.Unsupported starts is same = absurd is
+  unserved (start.Failed message) (inl none) is same = absurd none.0
+  unserved (start.Failed message) (inr x) is same =
+      follows_by serves answers limits g old new before between between ends (start.Failed message) (Some (failed message)) x x.answered (same, refl, is)
+  unserved (start.Idle turns) (inl none) is same = absurd none.0
+  unserved (start.Idle turns) (inr x) is same = follows_by serves answers limits g old new before between between ends (start.Idle turns) None x x.answered (same, refl, is)
+  unserved start.NoMemory (inl none) is same = inr (same, none.1, is)
+  unserved start.NoMemory (inr x) is same = absurd x.answered
 
-module _ {A T : Type 0} (serves : List (List ℕ × StateValue) → A → A → Served → Type 0) (limits : Limits) (g : tasks.Ghosts T)
-    (old new : A) (before after : ℕ) (ends : Ending) where
-  -- the answer is another name for this one
-  pub as_answered : (answer other : Start T g) → answer ≡ other → FollowsStart serves limits other old new before after ends
-      → FollowsStart serves limits answer old new before after ends
-  as_answered answer other same f = subst (λ a. FollowsStart serves limits a old new before after ends) (sym same) f
+module _ {A T : Type 0} (serves : List (List ℕ × StateValue) → A → A → Served → Type 0) (answers : Promise) (limits : Limits) (g : tasks.Ghosts T) (R : Type 0)
+    (old new : A) (before : ℕ) (ends : Ending) where
+  -- an application that lived, with a pause that began at none, was served, and was stopped
+  pub lives_on : (living : Living T R g) (state : List (List ℕ × StateValue)) → before ≡ 0 → Begins answers limits before (begun.Lives living state)
+      → (how : Served) → serves state old new how → (after : ℕ) × EndsBy living.lifespan living.pause.count after how ends → LivesOn serves answers limits old new ends
+  lives_on living state none (answer, between, starts, is) how served (after, stops) =
+      inl (after, subst (λ n. LivesOrNot serves answers limits old new n after ends) none (lived serves answers limits g old new before between after ends answer starts living state is how served stops))
 
-  -- an application without a lifespan was served with a state that is empty
-  pub served_unsupported : (answer : Start T g) (state : List (List ℕ × StateValue)) (how : Served) → answer ≡ start.Unsupported → state ≡ []
-      → serves state old new how → after ≡ before → ends ≡ ending_of how stop.Stopped
-      → FollowsStart serves limits answer old new before after ends
-  served_unsupported answer state how same empty served rests ends =
-      as_answered answer start.Unsupported same (how, subst (λ s. serves s old new how) empty served, rests, ends)
+  -- one that did not live was not served
+  pub lives_not : before ≡ 0 → Begins {T = T} {R = R} {g = g} answers limits before (begun.Ends ends) → new ≡ old → LivesOn serves answers limits old new ends
+  lives_not none (answer, between, starts, is) same =
+      inl (between, subst (λ n. LivesOrNot serves answers limits old new n between ends) none (unserved serves answers limits g R old new before between ends answer starts is same))

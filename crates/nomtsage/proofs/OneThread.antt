@@ -1,5 +1,5 @@
 -- A server in one thread promises what a server in seats does.
-use Rattle.std.proofs.Common.{◌≡◌, ◌⊎◌, inl, inr, ◌∙◌, ap, refl, subst, sym, ℕ, List, [], ◌∷◌, Option, Some, None, Result}
+use Rattle.std.proofs.Common.{◌≡◌, ◌⊎◌, inl, inr, ◌∙◌, ap, refl, subst, sym, ◌≤◌, arith, ℕ, List, [], ◌∷◌, Option, Some, None, Result}
 use Rattle.std.specs.Prelude.{IfSome}
 use Rattle.std.specs.declared.io.Error.{Error}
 use Rattle.asgi_types.specs.declared.incoming.Incoming.{Incoming}
@@ -15,9 +15,9 @@ use Rattle.nomtsage.specs.declared.ending.Ending.{Ending}
 use Rattle.nomtsage.specs.declared.ending.Served.{Served}
 use Rattle.nomtsage.specs.declared.ending.Served.TheVariants as served
 use Rattle.nomtsage.specs.declared.fault.ServeError.{ServeError}
-use Rattle.nomtsage.specs.Seats.{RanSeats, ServesSeats}
+use Rattle.nomtsage.specs.Seats.{RanFew, ServesSeats}
 use Rattle.nomtsage.specs.Serving.{Follows, Lives, LivesOn, LivesOrNot, around}
-use Rattle.nomtsage.specs.Tables.{EachServes, RanTables, ServesTables, ServesThread, Thread, error_in, first_error, in_all, thread}
+use Rattle.nomtsage.specs.Tables.{EachServes, RanTablesFew, ServesTables, ServesThread, Thread, came_to, error_in, first_error, in_all, thread}
 
 -- how one ended is how all did
 in_all_one : (how : Served) → in_all how served.Each ≡ how
@@ -94,20 +94,23 @@ module _ {L K : Type 0} (line_state : L → LineState) (tells : K → K → ℕ 
   lives_on_one new ends (inr (same, is)) = (thread [] teller None, same, inr (refl, is))
 
 -- what a server in one thread did is what a server in seats does
-pub one_thread_is_in_seats : {L K : Type 0} (line_state : L → LineState) (tells : K → K → ℕ → Report → Type 0) (answers : Promise) (limits : Limits) (teller : K)
-    (result : Result (Unit {0}) ServeError) → RanTables line_state tells answers limits 1 teller result → RanSeats line_state tells answers limits teller result
-one_thread_is_in_seats line_state tells answers limits teller result x =
+pub one_thread_is_in_seats : {L K : Type 0} (line_state : L → LineState) (tells : K → K → ℕ → Report → Type 0) (answers : Promise) (limits : Limits) (count : ℕ) (teller : K)
+    (result : Result (Unit {0}) ServeError) → RanTablesFew line_state tells answers limits 1 count teller result → RanFew line_state tells answers limits count teller result
+one_thread_is_in_seats line_state tells answers limits count teller result (x, few) =
     let (one, same, lives) = lives_on_one line_state tells answers limits x.seconds teller x.threads x.ends x.serves in
     let is_why = if_error (λ e. x.given ≡ e) one.why (subst (λ threads. IfSome (first_error threads) (λ e. x.given ≡ e)) same x.is_given) in
-    record {
-      asked = one.asked;
-      told = one.teller;
-      why = one.why;
-      seconds = x.seconds;
-      in_seconds = x.in_seconds;
-      ends = x.ends;
-      serves = lives;
-      given = x.given;
-      is_why = is_why;
-      result_is = x.result_is;
-    }
+    let came : came_to (one ∷ []) ≤ count = subst (λ threads. came_to threads ≤ count) same few in (
+      record {
+        asked = one.asked;
+        told = one.teller;
+        why = one.why;
+        seconds = x.seconds;
+        in_seconds = x.in_seconds;
+        ends = x.ends;
+        serves = lives;
+        given = x.given;
+        is_why = is_why;
+        result_is = x.result_is;
+      },
+      omega (arith, came),
+    )

@@ -1,5 +1,5 @@
 -- What a server in several threads did, by what each thread did.
-use Rattle.std.proofs.Common.{◌≡◌, inl, inr, ap₂, refl, sym, subst, ℕ, List, [], ◌∷◌, All, length, map, replicate, Option, None, Result}
+use Rattle.std.proofs.Common.{◌≡◌, inl, inr, ap₂, refl, sym, subst, ◌≤◌, ℕ, List, [], ◌∷◌, All, length, map, replicate, Option, None, Result}
 use Rattle.std.specs.Prelude.{IfSome}
 use Rattle.std.proofs.lemmas.List.Elements.{All-head, All-tail, All-weaker}
 use Rattle.std.specs.declared.io.Error.{Error}
@@ -17,15 +17,15 @@ use Rattle.asgi_many.specs.declared.reactor.Next.{Next}
 use Rattle.asgi_many.specs.declared.seat.Departure.{Departure}
 use Rattle.asgi_many.specs.declared.serving.Served as many_served
 use Rattle.asgi_many.specs.Serving.{ServesMany}
-use Rattle.asgi_server.specs.Connections.{PromisesWithin}
 use Rattle.asgi_threads.specs.Abreast.{Each}
 use Rattle.nomtsage.specs.declared.ending.Ending.{Ending}
 use Rattle.nomtsage.specs.declared.ending.Served.{Served}
 use Rattle.nomtsage.specs.declared.fault.ServeError.{ServeError}
+use Rattle.nomtsage.specs.Promises.{PromisesWithin}
 use Rattle.nomtsage.specs.Running.{IsResultOf}
 use Rattle.nomtsage.specs.Seats.{InSeconds, ServesSeats, of_reports}
 use Rattle.nomtsage.specs.Serving.{Around, LivesOn}
-use Rattle.nomtsage.specs.Tables.{EachServes, RanTables, ServesTables, Thread, first_error, thread}
+use Rattle.nomtsage.specs.Tables.{EachServes, RanTablesFew, ServesTables, Thread, came_to, first_error, thread}
 use Rattle.nomtsage.specs.private.Together.{all_in}
 
 module _ (one other : Promise) (within : PromisesWithin one other) (limits : Limits) (state : List (List ℕ × StateValue)) where
@@ -99,17 +99,21 @@ all_fresh {P} {Q} {K} asked teller why set (x ∷ xs) all =
     ap₂ (λ (y : Thread Q K) (ys : List (Thread Q K)). y ∷ ys) same (all_fresh asked teller why set xs others)
 
 -- what a server in several threads did that had been asked for nothing before
-pub ran_tables : {L K : Type 0} (line_state : L → LineState) (tells : K → K → ℕ → Report → Type 0) (answers : Promise) (limits seconds : Limits) (count : ℕ)
+pub ran_tables : {L K : Type 0} (line_state : L → LineState) (tells : K → K → ℕ → Report → Type 0) (answers : Promise) (limits seconds : Limits) (count most : ℕ)
     (was threads : List (Thread (Next L) K)) (teller : K) (ends : Ending) (given : Error) (result : Result (Unit {0}) ServeError) → was ≡ replicate count (thread [] teller None)
     → InSeconds limits seconds → LivesOn (ServesTables line_state tells answers seconds) answers limits was threads ends
-    → IfSome (first_error threads) (λ e. given ≡ e) → IsResultOf ends given result → RanTables line_state tells answers limits count teller result
-ran_tables {L} {K} line_state tells answers limits seconds count was threads teller ends given result none in_seconds serves is_given is = record {
-  threads = threads;
-  seconds = seconds;
-  in_seconds = in_seconds;
-  ends = ends;
-  serves = subst (λ (l : List (Thread (Next L) K)). LivesOn (ServesTables line_state tells answers seconds) answers limits l threads ends) none serves;
-  given = given;
-  is_given = is_given;
-  result_is = is;
-}
+    → IfSome (first_error threads) (λ e. given ≡ e) → IsResultOf ends given result → came_to threads ≤ most
+    → RanTablesFew line_state tells answers limits count most teller result
+ran_tables {L} {K} line_state tells answers limits seconds count most was threads teller ends given result none in_seconds serves is_given is few = (
+  record {
+    threads = threads;
+    seconds = seconds;
+    in_seconds = in_seconds;
+    ends = ends;
+    serves = subst (λ (l : List (Thread (Next L) K)). LivesOn (ServesTables line_state tells answers seconds) answers limits l threads ends) none serves;
+    given = given;
+    is_given = is_given;
+    result_is = is;
+  },
+  few,
+)

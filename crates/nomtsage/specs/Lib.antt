@@ -1,4 +1,5 @@
 pub mod private
+pub mod Promises
 pub mod Serving
 pub mod Tables
 pub mod Running

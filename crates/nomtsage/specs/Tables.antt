@@ -1,5 +1,5 @@
 -- How a server serves in several threads: each has a table of its own, in which it serves in seats, and all share one socket that listens.
-use Rattle.std.specs.Prelude.{◌≡◌, ◌≢◌, ◌⊎◌, ℕ, List, [], ◌∷◌, length, replicate, Option, Some, None, Result, IfSome}
+use Rattle.std.specs.Prelude.{◌≡◌, ◌≢◌, ◌⊎◌, ◌+◌, ◌≤◌, ℕ, List, [], ◌∷◌, length, replicate, Option, Some, None, Result, IfSome}
 use Rattle.std.specs.declared.io.Error.{Error}
 use Rattle.asgi_types.specs.declared.limits.Limits.{Limits}
 use Rattle.asgi_types.specs.declared.state.StateValue.{StateValue}
@@ -7,6 +7,7 @@ use Rattle.asgi_ws.specs.Lines.{LineState}
 use Rattle.asgi_apps.specs.Promises.{Promise}
 use Rattle.asgi_conversation.specs.declared.report.Report.{Report}
 use Rattle.asgi_many.specs.declared.reactor.Next.{Next}
+use Rattle.asgi_many.specs.Serving.{came_in}
 use Rattle.nomtsage.specs.declared.ending.Ending.{Ending}
 use Rattle.nomtsage.specs.declared.ending.Served.{Served}
 use Rattle.nomtsage.specs.declared.ending.Served.TheVariants as served
@@ -25,6 +26,11 @@ pub record Thread (Q K : Type 0) : Type 0 where
 
 abbrev pub thread : {Q K : Type 0} → List Q → K → Option Error → Thread Q K
 thread asked teller why = record { asked = asked; teller = teller; why = why }
+
+-- how many connections came to all of them
+abbrev pub came_to : {L K : Type 0} → List (Thread (Next L) K) → ℕ
+came_to [] = 0
+came_to (one ∷ others) = length (came_in one.asked) + came_to others
 
 -- ---- how they ended in all
 
@@ -81,10 +87,14 @@ module _ {L K : Type 0} (line_state : L → LineState) (tells : K → K → ℕ 
     pub is_given : IfSome (first_error threads) (λ e. given ≡ e)
     pub result_is : IsResultOf ends given result
 
+  -- the same, and at most so many connections came to all threads together
+  abbrev pub RanTablesFew : Limits → (threads count : ℕ) → K → Result (Unit {0}) ServeError → Type 0
+  RanTablesFew limits threads count teller result = (ran : RanTables limits threads teller result) × (came_to ran.threads ≤ count)
+
   -- it served so, by as many threads as were set, or nothing was begun
-  abbrev pub RunsTables : Settings K → Result (Unit {0}) ServeError → Type 0
-  RunsTables set result = ((count : ℕ) × IsNumberBy set.workers count × RanTables set.limits count set.teller result) ⊎ IsUnbegun set result
+  abbrev pub RunsTables : Settings K → (count : ℕ) → Result (Unit {0}) ServeError → Type 0
+  RunsTables set count result = ((threads : ℕ) × IsNumberBy set.workers threads × RanTablesFew set.limits threads count set.teller result) ⊎ IsUnbegun set result
 
   -- the same of a program that ends by it
-  abbrev pub RunsTablesTo : Settings K → ℕ → Type 0
-  RunsTablesTo set status = (result : Result (Unit {0}) ServeError) × RunsTables set result × (status ≡ exit_of result)
+  abbrev pub RunsTablesTo : Settings K → (count : ℕ) → (status : ℕ) → Type 0
+  RunsTablesTo set count status = (result : Result (Unit {0}) ServeError) × RunsTables set count result × (status ≡ exit_of result)

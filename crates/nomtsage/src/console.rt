@@ -1,6 +1,6 @@
-//! The numbers of the standard streams.
+//! The descriptors of a program: the numbers of its standard streams, and how many it may have.
 use std::fs::{Files, OpenOptions};
-use std::io;
+use std::io::{self, Read};
 use std::os::fd::AsRawFd;
 use std::time::Clock;
 
@@ -10,7 +10,16 @@ const LAST: i32 = 2;
 /// What is written there goes nowhere.
 const NOWHERE: &str = "/dev/null";
 
-/// A system whose standard streams can be held: `HostRuntime` is one.
+/// Where Linux tells the limits of a program, a line each, in some 1,300 bytes (proc_pid_limits(5)).
+const LIMITS: &str = "/proc/self/limits";
+
+/// How many bytes of them are read.
+const LIMITS_LENGTH: usize = 4_096;
+
+/// What the line of descriptors begins with. The limit in force follows, and then the one that it can be raised to.
+const OPEN_FILES: &str = "Max open files";
+
+/// A system whose standard streams can be held, and which tells how many descriptors there may be: `HostRuntime` is one.
 pub trait Console: Clock {
     /// What holds them.
     type Held: Drop;
@@ -18,6 +27,9 @@ pub trait Console: Clock {
     /// Opens `/dev/null` in the place of each standard stream with which the program was not started, so that no socket gets its
     /// number, and what is written to it goes nowhere.
     fn hold_standard(&self) -> io::Result<Self::Held>;
+
+    /// How many descriptors the program may have at the same time. `None` if it has no limit, or if the system does not tell it.
+    fn descriptors(&self) -> Option<u64>;
 }
 
 impl<R: Clock + Files> Console for R
@@ -38,6 +50,19 @@ where
         };
         Ok(Standard::Three(first, second, third))
     }
+
+    fn descriptors(&self) -> Option<u64> {
+        let mut file = OpenOptions::new().read(true).open(self, LIMITS).ok()?;
+        let mut bytes = [0; LIMITS_LENGTH];
+        let length = file.read(&mut bytes).ok()?;
+        limit_in(str::from_utf8(bytes.get(..length)?).ok()?)
+    }
+}
+
+/// The limit of descriptors in the text of `/proc/self/limits`. `None` if it is `unlimited`, or not there.
+fn limit_in(text: &str) -> Option<u64> {
+    let after = text.lines().find_map(|line| line.strip_prefix(OPEN_FILES))?;
+    after.split_ascii_whitespace().next()?.parse::<u64>().ok()
 }
 
 /// The standard streams that a program was started without, each open on `/dev/null`, until this is dropped.

@@ -10,7 +10,7 @@ use crate::fault::{ListenFault, ServeError};
 use crate::opened::{Opened, open_reactor};
 use crate::returning::result_of;
 use crate::seats::serve_in_seats;
-use crate::server::{Server, error_of, failed};
+use crate::server::{Server, done, error_of, failed};
 use crate::stop::flag_of;
 use crate::tellers::Tells;
 use asgi_apps::Application;
@@ -19,7 +19,7 @@ use asgi_reactor::{Linger, Numbers, PolledLine, SocketReactor};
 use asgi_server::{OnEnd, Teller};
 use asgi_types::Limits;
 use asgi_ws::Line;
-use log::{Log, info};
+use log::{Log, info, warn};
 use std::net::Net;
 use std::process::ExitCode;
 use std::time::{Clock, Duration};
@@ -27,13 +27,13 @@ use std::time::{Clock, Duration};
 /// How long an idle turn of a connection takes, in seconds.
 const TICK: u64 = 1;
 
-/// For how many of them in a row a client may take nothing of what waits for it.
+/// For how many of them bytes may wait for a client to take them, and one more for each `LEAST` that it takes meanwhile.
 const PATIENCE: u32 = 30;
 
-/// How many bytes of a head or a body have to come in a second in which some do.
-const LEAST: u64 = 64;
+/// For how many bytes a client that sends a request, or takes its response, has one second more.
+const LEAST: u64 = 500;
 
-/// For how many seconds in a row fewer may come.
+/// How many seconds a client may take for a request, and one more for each `LEAST` bytes of it.
 const SLOW: u32 = 60;
 
 /// For how many seconds exchanges and sessions go on once the server is to end.
@@ -41,6 +41,15 @@ const LEAVE: u32 = 30;
 
 /// After how many seconds a connection that is silent between two requests gives its seat to a newcomer, if all seats are taken.
 const GIVE_WAY: u32 = 5;
+
+/// How many bytes each thread holds for all its clients at the most: what they have not taken, and what was read ahead.
+const HELD: u64 = 536_870_912;
+
+/// After how many seconds in which nothing is said the client of a session is asked by a ping.
+const PING: u32 = 20;
+
+/// For how many seconds it may give no sign then.
+const PONG: u32 = 20;
 
 /// For how many seconds a client that goes on sending is read after its answer.
 const LINGER: u32 = 30;
@@ -50,6 +59,10 @@ const LINGER_SILENT: u32 = 5;
 
 /// How many bytes are read of it then.
 const LINGER_BYTES: u64 = 67_108_864;
+
+/// How many descriptors a program has besides those of its connections and one for each thread: the standard streams, and the
+/// socket that listens.
+const STREAMS: u64 = 4;
 
 impl<'a, K: Teller<Report> + Drop, E: OnEnd + Drop> Server<'a, K, E, InSeats> {
     /// Listens, starts the application, serves each connection, and stops the application once there are no more: after
@@ -110,7 +123,7 @@ impl<'a, K: Teller<Report> + Drop, E: OnEnd + Drop> Server<'a, K, E, InSeats> {
             (settings self.entry.address self.entry.workers self.entry.limits self.entry.on_report) self.entry.count (exit_status result) }
     {
         match self.run(rt, app) {
-            Ok(()) => ExitCode::from(0),
+            Ok(()) => done(rt),
             Err(e) => failed(rt, e),
         }
     }
@@ -129,6 +142,9 @@ pub(crate) fn numbers_of(seats: usize, count: u64) -> Numbers
         slow: SLOW,
         leave: LEAVE,
         give_way: GIVE_WAY,
+        held: HELD,
+        ping: PING,
+        pong: PONG,
         linger: Linger {
             ticks: LINGER,
             silent: LINGER_SILENT,
@@ -156,6 +172,7 @@ fn listened_in_seats<
     ensures { RanFew ⟦<PolledLine as Line>⟧.state K.tells (A.answers app.now) limits.now reactor.entry.left tells.entry.on_report result }
 {
     say_where(rt, &reactor);
+    say_room(rt, seats, 1);
     let ending = serve_in_seats(rt, limits, seats, app, &mut reactor, &mut tells);
     let why = error_of(reactor.why());
     reactor.end();
@@ -168,4 +185,16 @@ pub(crate) fn say_where<H: Net + Clock + Log>(rt: &H, reactor: &SocketReactor<'_
         return;
     };
     info!(rt; "listening on http://{address}");
+}
+
+/// Warns in the log if there may be fewer descriptors than so many connections in each of so many threads take: then some wait for
+/// others to end.
+pub(crate) fn say_room<H: Console + Log>(rt: &H, seats: usize, threads: u64) {
+    let connections = (seats as u64).saturating_mul(threads);
+    let Some(descriptors) = rt.descriptors() else {
+        return;
+    };
+    if descriptors < connections.saturating_add(STREAMS).saturating_add(threads) {
+        warn!(rt; "{descriptors} descriptors (ulimit -n) do not suffice for {connections} connections at the same time");
+    }
 }

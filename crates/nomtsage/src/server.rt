@@ -5,18 +5,16 @@ ghost use Rattle.std.specs.Process.{exit_status};
 ghost use Rattle.nomtsage.specs.Running.{IsNumber, IsNumberBy, Ran, Runs, RunsTo, settings, status_of};
 
 use crate::console::Console;
-use crate::engines::{HasWorkers, InSeats, InThread, InWorker};
+use crate::engines::{InSeats, InThread};
 use crate::fault::{ListenFault, ServeError};
 use crate::opened::{Opened, open_listening};
 use crate::returning::result_of;
-use crate::serve::{serve_in_worker_on, serve_on};
+use crate::serve::{ByWorkers, serve_by};
 use crate::stop::{Stop, flag_of};
 use crate::tellers::{LogLines, Quiet};
 use asgi_apps::{AppTask, Application};
 use asgi_conn::{Host, Report};
-use asgi_server::{
-    InlineStation, Listening, Nobody, OnEnd, Socket, Teller, Threadless, Workers, loopback,
-};
+use asgi_server::{Listening, Nobody, OnEnd, Socket, Teller, Workers, loopback};
 use asgi_types::Limits;
 use asgi_ws::{Line, Wired};
 use log::{Log, error, info};
@@ -80,7 +78,7 @@ impl<'a> Server<'a, Quiet, Nobody, InSeats> {
     }
 }
 
-impl<'a, K: Drop, E: Drop, G: HasWorkers + Drop> Server<'a, K, E, G> {
+impl<'a, K: Drop, E: Drop> Server<'a, K, E, InThread> {
     /// With this many workers, 1 to 8, each in a thread of its own: as many connections are served at the same time. Another
     /// number is an error of `run`; if none is set there are as many as processors, at most 8.
     pub fn workers(self, count: u64) -> Self
@@ -206,16 +204,6 @@ impl<'a, K: Drop, E: Drop, G: Drop> Server<'a, K, E, G> {
         self.with_engines(InThread)
     }
 
-    /// Serves by workers, each connection by one of them, and runs each task in its worker's own thread: for applications that
-    /// never block, on more than one processor. A task that does holds up what is written to its client. A task need be neither
-    /// `Send` nor `'static`.
-    pub fn in_worker<R: Host>(self, rt: &R) -> Server<'a, K, E, InWorker<InlineStation<R>>>
-        ensures others { let was = self.entry in (result.address ≡ was.address) × (result.workers ≡ was.workers) × (result.limits ≡ was.limits)
-            × (result.count ≡ was.count) × (result.stop ≡ was.stop) × (result.on_report ≡ was.on_report) × (result.on_end ≡ was.on_end) }
-    {
-        self.with_engines(InWorker::of(rt))
-    }
-
     /// Serves in the thread that calls `run`, at most `seats` connections at a time (else 10,000), each taken up as soon as its
     /// socket is ready: for many clients, and applications that never block, since a task that does holds up all of them. There
     /// is no other thread. `on_report` is told of each connection as it ends, under the number of its arrival.
@@ -259,7 +247,6 @@ impl<'a, K: Drop, E: Drop, G: Drop> Server<'a, K, E, G> {
     }
 }
 
-// There are two of each of these calls, since what makes a thread can't be called through a trait.
 impl<'a, K: Teller<Report> + Drop + Send, E: OnEnd + Drop + Send + Sync> Server<
     'a,
     K,
@@ -329,7 +316,14 @@ impl<'a, K: Teller<Report> + Drop + Send, E: OnEnd + Drop + Send + Sync> Server<
             socket: listener,
             held: _held,
         } = opened;
-        listened(rt, &limits, workers, app, &on_end, listener, on_report)
+        let by = ByWorkers {
+            rt,
+            limits: &limits,
+            workers,
+            app,
+            on_end: &on_end,
+        };
+        listened(&by, listener, on_report)
     }
 
     /// The same for a `main`: the error is written to the log, and the exit status is by it (`ServeError::status`).
@@ -347,112 +341,26 @@ impl<'a, K: Teller<Report> + Drop + Send, E: OnEnd + Drop + Send + Sync> Server<
             (settings self.entry.address self.entry.workers self.entry.limits self.entry.on_report) (exit_status result) }
     {
         match self.run(rt, app) {
-            Ok(()) => ExitCode::from(0),
+            Ok(()) => done(rt),
             Err(e) => failed(rt, e),
         }
     }
 }
 
-impl<'a, K: Teller<Report> + Drop + Send, E: OnEnd + Drop + Send + Sync, G: Drop + Send> Server<
-    'a,
-    K,
-    E,
-    InWorker<G>,
-> {
-    /// Listens, starts the application, serves, and stops it, as a server does whose tasks have a thread. An engine is made for
-    /// each worker once the address is listened on.
-    pub fn run<
-        'r,
-        S: OpenStream + Read + Write + Drop + Send,
-        H: Net<Stream = S> + Console + Log + Host + Sync,
-        T: AppTask,
-        A: Application<Task = T> + Send + Sync,
-    >(self, rt: &'r H, app: &A) -> Result<(), ServeError>
-    where
-        'a: 'r,
-        H::Listener: Send,
-        G: Threadless<A, H>,
-        ensures { Runs ⟦<Wired<Socket<'r, H, S>> as Line>⟧.state K.tells (A.answers app.now)
-            (settings self.entry.address self.entry.workers self.entry.limits self.entry.on_report) result }
-    {
-        let workers = match workers_of(rt, self.workers) {
-            Ok(workers) => workers,
-            Err(count) => return Err(ServeError::BadWorkers(count)),
-        };
-        self.run_by(rt, app, workers)
-    }
-
-    /// The same by this many workers.
-    fn run_by<
-        'r,
-        S: OpenStream + Read + Write + Drop + Send,
-        H: Net<Stream = S> + Console + Log + Host + Sync,
-        T: AppTask,
-        A: Application<Task = T> + Send + Sync,
-    >(self, rt: &'r H, app: &A, workers: Workers) -> Result<(), ServeError>
-    where
-        'a: 'r,
-        H::Listener: Send,
-        G: Threadless<A, H>,
-        requires { IsNumberBy self.workers workers.count }
-        ensures { Runs ⟦<Wired<Socket<'r, H, S>> as Line>⟧.state K.tells (A.answers app.now)
-            (settings self.entry.address self.entry.workers self.entry.limits self.entry.on_report) result }
-    {
-        let Server {
-            address,
-            limits,
-            count,
-            stop,
-            on_report,
-            on_end,
-            workers: _asked,
-            engines,
-        } = self;
-        let opened = match open_listening(rt, address, count, flag_of(stop)) {
-            Ok(opened) => opened,
-            Err(e) => {
-                return Err(ServeError::CannotListen {
-                    address,
-                    why: ListenFault(e),
-                });
-            }
-        };
-        let Opened {
-            socket: listener,
-            held: _held,
-        } = opened;
-        listened_in_worker(
-            rt, &limits, workers, app, &on_end, listener, on_report, &engines,
-        )
-    }
-
-    /// The same for a `main`: the error is written to the log, and the exit status is by it (`ServeError::status`).
-    pub fn serve<
-        'r,
-        S: OpenStream + Read + Write + Drop + Send,
-        H: Net<Stream = S> + Console + Log + Host + Sync,
-        T: AppTask,
-        A: Application<Task = T> + Send + Sync,
-    >(self, rt: &'r H, app: &A) -> ExitCode
-    where
-        'a: 'r,
-        H::Listener: Send,
-        G: Threadless<A, H>,
-        ensures { RunsTo ⟦<Wired<Socket<'r, H, S>> as Line>⟧.state K.tells (A.answers app.now)
-            (settings self.entry.address self.entry.workers self.entry.limits self.entry.on_report) (exit_status result) }
-    {
-        match self.run(rt, app) {
-            Ok(()) => ExitCode::from(0),
-            Err(e) => failed(rt, e),
-        }
-    }
+/// Writes out what waits to be written to the log, and returns the exit status of a server that ended well.
+pub(crate) fn done<H: Log>(rt: &H) -> ExitCode
+    ensures { exit_status result ≡ 0 }
+{
+    rt.flush();
+    ExitCode::from(0)
 }
 
-/// Writes why the server failed to the log, and returns the exit status.
+/// Writes why the server failed to the log, writes that out, and returns the exit status.
 pub(crate) fn failed<H: Log>(rt: &H, e: ServeError) -> ExitCode
     ensures { exit_status result ≡ status_of e }
 {
     error!(rt; "{e}");
+    rt.flush();
     ExitCode::from(e.status())
 }
 
@@ -509,60 +417,17 @@ fn listened<
     E: OnEnd + Send + Sync,
     K: Teller<Report> + Drop + Send,
 >(
-    rt: &'a H,
-    limits: &Limits,
-    workers: Workers,
-    app: &A,
-    on_end: &E,
+    by: &ByWorkers<'_, H, A, E>,
     mut listener: Listening<'a, H>,
     on_report: K,
 ) -> Result<(), ServeError>
 where
     H::Listener: Send,
     requires { listener.told.items ≡ [] }
-    ensures { Ran ⟦<Wired<Socket<'a, H, S>> as Line>⟧.state K.tells (A.answers app.now) limits.now workers.count on_report result }
+    ensures { Ran ⟦<Wired<Socket<'a, H, S>> as Line>⟧.state K.tells (A.answers by.now.app.now) by.now.limits.now by.now.workers.count on_report result }
 {
-    say_where(rt, &listener);
-    let (ending, _told) = serve_on(rt, limits, workers, app, on_end, &mut listener, on_report);
-    result_of(ending, error_of(listener.why()))
-}
-
-/// The same with each task run in the thread of its connection's worker.
-fn listened_in_worker<
-    'a,
-    S: OpenStream + Read + Write + Drop + Send,
-    H: Net<Stream = S> + Console + Log + Host + Sync,
-    T: AppTask,
-    A: Application<Task = T> + Send + Sync,
-    E: OnEnd + Send + Sync,
-    K: Teller<Report> + Drop + Send,
-    G: Threadless<A, H> + Drop + Send,
->(
-    rt: &'a H,
-    limits: &Limits,
-    workers: Workers,
-    app: &A,
-    on_end: &E,
-    mut listener: Listening<'a, H>,
-    on_report: K,
-    engines: &InWorker<G>,
-) -> Result<(), ServeError>
-where
-    H::Listener: Send,
-    requires { listener.told.items ≡ [] }
-    ensures { Ran ⟦<Wired<Socket<'a, H, S>> as Line>⟧.state K.tells (A.answers app.now) limits.now workers.count on_report result }
-{
-    say_where(rt, &listener);
-    let (ending, _told) = serve_in_worker_on(
-        rt,
-        limits,
-        workers,
-        app,
-        on_end,
-        &mut listener,
-        on_report,
-        engines,
-    );
+    say_where(by.rt, &listener);
+    let (ending, _told) = serve_by(by, &mut listener, on_report);
     result_of(ending, error_of(listener.why()))
 }
 

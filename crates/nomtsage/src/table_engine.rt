@@ -3,7 +3,7 @@ ghost use Rattle.std.specs.Prelude.{◌≡◌, IfOk, IsErr};
 ghost use Rattle.asgi_apps.specs.Promises.{Promise};
 ghost use Rattle.asgi_many.specs.Moves.{KeepsSeats};
 ghost use Rattle.asgi_many.specs.Serving.{ServesMany};
-ghost use Rattle.asgi_server.specs.Connections.{PromisesWithin};
+ghost use Rattle.nomtsage.specs.Promises.{PromisesWithin};
 
 use asgi_apps::Application;
 use asgi_reactor::{Departure, Reactor, Served, serve_in_thread};
@@ -35,7 +35,8 @@ pub trait TableEngine<A> {
         ensures serves { IfOk result (λ how. ServesMany K.tells (answers app.now) N.L.state limits.now state.now (N.answers reactor.old) (N.answers reactor.new)
             teller.old teller.new how) }
         ensures seats { IfOk result (λ how. KeepsSeats seats (N.moves reactor.old) (N.moves reactor.new) how) }
-        ensures no_memory { IsErr result → (N.answers reactor.new ≡ N.answers reactor.old) × (N.moves reactor.new ≡ N.moves reactor.old) × (teller.new ≡ teller.old) };
+        ensures no_memory { IsErr result → (N.answers reactor.new ≡ N.answers reactor.old) × (N.moves reactor.new ≡ N.moves reactor.old) × (teller.new ≡ teller.old) }
+        ensures kept { N.kept reactor.new ≡ N.kept reactor.old };
 }
 
 /// An engine whose promise is the application's.

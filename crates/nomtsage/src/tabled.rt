@@ -2,7 +2,8 @@
 ghost use Rattle.std.specs.Prelude.{◌≡◌, ◌+◌, [], None, Some, All, IfOk, IsOk, vec_len};
 ghost use Rattle.std.specs.Process.{exit_status};
 ghost use Rattle.nomtsage.specs.Running.{IsNumberBy, settings};
-ghost use Rattle.nomtsage.specs.Tables.{RanTables, RunsTables, RunsTablesTo};
+ghost use Rattle.nomtsage.specs.Tables.{RanTablesFew, RunsTables, RunsTablesTo};
+ghost use Rattle.nomtsage.specs.private.Together.{IsWithin};
 
 use crate::console::Console;
 use crate::ending::Served;
@@ -10,16 +11,15 @@ use crate::engines::{InSeats, InTables};
 use crate::fault::{ListenFault, ServeError};
 use crate::opened::{Opened, open_reactor};
 use crate::returning::result_of;
-use crate::seated::{numbers_of, say_where};
-use crate::server::{Server, error_of, failed, workers_of};
+use crate::seated::{numbers_of, say_room, say_where};
+use crate::server::{Server, done, error_of, failed, workers_of};
 use crate::stop::flag_of;
 use crate::table_engine::{OwnThread, TableEngineOf};
-use crate::tables::{Post, serve_in_tables, why_of};
+use crate::tables::{InThreads, Post, serve_in_tables, settle, why_of};
 use asgi_apps::Application;
 use asgi_conn::{Host, Report};
 use asgi_reactor::{Numbers, PolledLine, Quota, SocketReactor};
 use asgi_server::{OnEnd, Teller, Workers};
-use asgi_types::Limits;
 use asgi_ws::Line;
 use log::Log;
 use std::alloc::Global;
@@ -72,7 +72,7 @@ impl<'a, K: Teller<Report> + Copy + Drop + Send, E: OnEnd + Drop + Sync, G: Drop
         'a: 'r,
         G: TableEngineOf<A>,
         ensures { RunsTables ⟦<PolledLine as Line>⟧.state K.tells (A.answers app.now)
-            (settings self.entry.address self.entry.workers self.entry.limits self.entry.on_report) result }
+            (settings self.entry.address self.entry.workers self.entry.limits self.entry.on_report) self.entry.count result }
     {
         let workers = match workers_of(rt, self.workers) {
             Ok(workers) => workers,
@@ -93,7 +93,7 @@ impl<'a, K: Teller<Report> + Copy + Drop + Send, E: OnEnd + Drop + Sync, G: Drop
         G: TableEngineOf<A>,
         requires { IsNumberBy self.workers workers.count }
         ensures { RunsTables ⟦<PolledLine as Line>⟧.state K.tells (A.answers app.now)
-            (settings self.entry.address self.entry.workers self.entry.limits self.entry.on_report) result }
+            (settings self.entry.address self.entry.workers self.entry.limits self.entry.on_report) self.entry.count result }
     {
         let Server {
             address,
@@ -106,7 +106,15 @@ impl<'a, K: Teller<Report> + Copy + Drop + Send, E: OnEnd + Drop + Sync, G: Drop
             engines,
         } = self;
         let numbers = numbers_of(engines.seats, count);
-        let quota = Quota::new(count);
+        let quota = match Quota::new(rt.alloc(), count) {
+            Ok(quota) => quota,
+            Err(e) => {
+                return Err(ServeError::CannotListen {
+                    address,
+                    why: ListenFault(io::Error::from(e)),
+                });
+            }
+        };
         let flag = flag_of(stop);
         let opened = match open_posts(rt, address, &numbers, flag, &quota, workers, on_report) {
             Ok(opened) => opened,
@@ -121,10 +129,15 @@ impl<'a, K: Teller<Report> + Copy + Drop + Send, E: OnEnd + Drop + Sync, G: Drop
             socket: posts,
             held: _held,
         } = opened;
-        let engine = &engines.engine;
-        listened_in_tables(
-            rt, &limits, &numbers, app, &on_end, engine, posts, workers, on_report,
-        )
+        let by = InThreads {
+            rt,
+            limits: &limits,
+            seats: numbers.seats,
+            app,
+            on_end: &on_end,
+            engine: &engines.engine,
+        };
+        listened_in_tables(&by, &quota, posts, workers, on_report)
     }
 
     /// The same for a `main`: the error is written to the log, and the exit status is by it (`ServeError::status`).
@@ -137,10 +150,10 @@ impl<'a, K: Teller<Report> + Copy + Drop + Send, E: OnEnd + Drop + Sync, G: Drop
         'a: 'r,
         G: TableEngineOf<A>,
         ensures { RunsTablesTo ⟦<PolledLine as Line>⟧.state K.tells (A.answers app.now)
-            (settings self.entry.address self.entry.workers self.entry.limits self.entry.on_report) (exit_status result) }
+            (settings self.entry.address self.entry.workers self.entry.limits self.entry.on_report) self.entry.count (exit_status result) }
     {
         match self.run(rt, app) {
-            Ok(()) => ExitCode::from(0),
+            Ok(()) => done(rt),
             Err(e) => failed(rt, e),
         }
     }
@@ -156,41 +169,41 @@ fn open_posts<'r, H: Net + Console + Log + Host, K: Copy + Drop>(
     threads: Workers,
     on_report: K,
 ) -> io::Result<Opened<Vec<Post<'r, H, K>>, H::Held>>
+    requires { numbers.now.count ≡ quota.now.count }
     ensures many { IfOk result (λ o. vec_len o.socket ≡ threads.count) }
     ensures fresh { IfOk result (λ o. All (λ p. (p.reactor.told.items ≡ []) × (p.reactor.why ≡ None) × (p.on_report ≡ on_report)) o.socket.items) }
+    ensures kept { IfOk result (λ o. All (λ p. IsWithin quota.now p.reactor.told.items p.reactor.left p.reactor.ticketer) o.socket.items) }
 {
     let Opened { socket, held } = open_reactor(rt, address, numbers, flag)?;
-    let posts = posts_of(
-        rt.alloc(),
-        socket.within(quota),
-        numbers,
-        threads,
-        on_report,
-    )?;
+    let posts = posts_of(rt.alloc(), socket, quota, numbers, threads, on_report)?;
     Ok(Opened {
         socket: posts,
         held,
     })
 }
 
-/// What each thread serves: this reactor, and one beside it for each other thread, with a copy of the teller each.
+/// What each thread serves: this reactor, and one beside it for each other thread, all within this quota, with a copy of the teller each.
 fn posts_of<'r, H: Net + Clock, K: Copy + Drop>(
     alloc: Global,
-    first: SocketReactor<'r, H>,
+    socket: SocketReactor<'r, H>,
+    quota: &'r Quota,
     numbers: &Numbers,
     threads: Workers,
     on_report: K,
 ) -> io::Result<Vec<Post<'r, H, K>>>
-    requires { (first.told.items ≡ []) × (first.why ≡ None) }
+    requires fresh { (socket.told.items ≡ []) × (socket.why ≡ None) }
+    requires count { (socket.left ≡ quota.now.count) × (numbers.now.count ≡ quota.now.count) }
     ensures many { IfOk result (λ posts. vec_len posts ≡ threads.count) }
     ensures fresh { IfOk result (λ posts. All (λ p. (p.reactor.told.items ≡ []) × (p.reactor.why ≡ None) × (p.on_report ≡ on_report)) posts.items) }
+    ensures kept { IfOk result (λ posts. All (λ p. IsWithin quota.now p.reactor.told.items p.reactor.left p.reactor.ticketer) posts.items) }
 {
+    let first = socket.within(quota);
     let mut posts = Vec::new(alloc);
     for _other in 1..threads.count() {
         let reactor = first.beside(numbers)?;
-        put(&mut posts, reactor, on_report)?;
+        put(&mut posts, reactor, quota, on_report)?;
     }
-    put(&mut posts, first, on_report)?;
+    put(&mut posts, first, quota, on_report)?;
     Ok(posts)
 }
 
@@ -198,12 +211,16 @@ fn posts_of<'r, H: Net + Clock, K: Copy + Drop>(
 fn put<'r, H: Net + Clock, K: Copy + Drop>(
     posts: &mut Vec<Post<'r, H, K>>,
     reactor: SocketReactor<'r, H>,
+    quota: &Quota,
     on_report: K,
 ) -> io::Result<()>
     requires one { (reactor.told.items ≡ []) × (reactor.why ≡ None) }
+    requires of { IsWithin quota.now reactor.told.items reactor.left reactor.ticketer }
     requires fresh { All (λ p. (p.reactor.told.items ≡ []) × (p.reactor.why ≡ None) × (p.on_report ≡ on_report)) posts.old.items }
+    requires kept { All (λ p. IsWithin quota.now p.reactor.told.items p.reactor.left p.reactor.ticketer) posts.old.items }
     ensures many { IsOk result → vec_len posts.new ≡ vec_len posts.old + 1 }
     ensures fresh { IsOk result → All (λ p. (p.reactor.told.items ≡ []) × (p.reactor.why ≡ None) × (p.on_report ≡ on_report)) posts.new.items }
+    ensures kept { IsOk result → All (λ p. IsWithin quota.now p.reactor.told.items p.reactor.left p.reactor.ticketer) posts.new.items }
 {
     posts.reserve(1)?;
     posts.push_reserved(Post {
@@ -223,24 +240,23 @@ fn listened_in_tables<
     G: TableEngineOf<A> + Sync,
     K: Teller<Report> + Copy + Drop + Send,
 >(
-    rt: &H,
-    limits: &Limits,
-    numbers: &Numbers,
-    app: &A,
-    on_end: &E,
-    engine: &G,
+    by: &InThreads<'_, H, A, E, G>,
+    quota: &Quota,
     posts: Vec<Post<'r, H, K>>,
     threads: Workers,
     on_report: K,
 ) -> Result<(), ServeError>
     requires many { vec_len posts ≡ threads.count }
     requires fresh { All (λ p. (p.reactor.told.items ≡ []) × (p.reactor.why ≡ None) × (p.on_report ≡ on_report)) posts.items }
-    ensures { RanTables ⟦<PolledLine as Line>⟧.state K.tells (A.answers app.now) limits.now threads.count on_report result }
+    requires kept { All (λ p. IsWithin quota.now p.reactor.told.items p.reactor.left p.reactor.ticketer) posts.items }
+    ensures { RanTablesFew ⟦<PolledLine as Line>⟧.state K.tells (A.answers by.now.app.now) by.now.limits.now threads.count quota.now.count on_report result }
 {
     if let Some(post) = posts.first() {
-        say_where(rt, &post.reactor);
+        say_where(by.rt, &post.reactor);
     }
-    let (ending, posts) = serve_in_tables(rt, limits, numbers.seats, app, on_end, engine, posts);
+    say_room(by.rt, by.seats, threads.count());
+    let (ending, posts) = serve_in_tables(by, posts);
     let why = error_of(why_of(posts.as_slice()));
+    settle(quota, posts);
     result_of(ending, why)
 }

@@ -1,28 +1,28 @@
 //! An application between its start and its stop, and in between several threads, each with many connections.
-ghost use Rattle.std.specs.Prelude.{◌≡◌, ◌⊎◌, map, Option};
+ghost use Rattle.std.specs.Prelude.{◌≡◌, ◌+◌, ◌⊎◌, ◌≤◌, All, length, map, Option};
 ghost use Rattle.std.specs.declared.io.Error.{Error};
 ghost use Rattle.asgi_types.specs.declared.limits.Limits.{Limits};
+ghost use Rattle.asgi_many.specs.Serving.{came_in};
+ghost use Rattle.asgi_reactor.specs.Accepting.{kept_in};
+ghost use Rattle.asgi_reactor.specs.Shares.{known};
 ghost use Rattle.nomtsage.specs.Seats.{InSeconds, ServesSeats};
-ghost use Rattle.nomtsage.specs.Serving.{LivesOn, LivesOrNot, around};
-ghost use Rattle.nomtsage.specs.Tables.{ServesTables, first_error, in_all, thread};
-ghost use Rattle.nomtsage.specs.private.Following.{FollowsStart};
-ghost use Rattle.nomtsage.specs.private.Together.{all_in};
+ghost use Rattle.nomtsage.specs.Serving.{LivesOn, around};
+ghost use Rattle.nomtsage.specs.Tables.{ServesTables, came_to, first_error, in_all, thread};
+ghost use Rattle.nomtsage.specs.private.Together.{IsWithin, all_in};
 
-use crate::ending::{Ending, Served, ending_of};
+use crate::ending::{Ending, Served};
+use crate::living::{Begun, begin, solo_of};
 use crate::seats::{in_seconds, served_in};
 use crate::table_engine::{TableEngine, TableEngineOf};
 use crate::tellers::Tells;
-use asgi_apps::{AppTask, Application};
+use asgi_apps::Application;
 use asgi_conn::{Host, Report};
-use asgi_io::Pause;
-use asgi_kept::{Napping, Resting};
-use asgi_lifespan::{Lifespan, Start, Stop};
-use asgi_reactor::{PolledLine, SocketReactor};
+use asgi_reactor::{PolledLine, Quota, SocketReactor, Ticketer};
 use asgi_server::{OnEnd, Teller};
 use asgi_threads::{Abreast, Works, work_abreast};
 use asgi_types::{Limits, State};
 use asgi_ws::Line;
-use futures::task::{Context, Doorbell, Solo};
+use log::Log;
 use std::alloc::AllocGlobal;
 use std::io;
 use std::random::RandomSource;
@@ -52,17 +52,20 @@ impl<
     'a,
     'r,
     H: AllocGlobal + RandomSource,
-    R: Clock,
+    R: Clock + Log,
     A,
     E: OnEnd,
     G: TableEngine<A>,
     K: Teller<Report>,
 > Works<Post<'r, R, K>> for Serving<'a, H, A, E, G> {
+    ghost use Rattle.std.specs.Prelude.{◌≡◌};
+    ghost use Rattle.asgi_reactor.specs.Accepting.{kept_in};
     ghost use Rattle.nomtsage.specs.Seats.{ServesSeats};
     ghost use Rattle.nomtsage.specs.Serving.{around};
 
     ghost works = { λ s was is. ServesSeats ⟦<PolledLine as Line>⟧.state K.tells (G.answers s.app.now) s.limits.now is.reactor.why s.state.now
-        (around was.reactor.told.items was.on_report) (around is.reactor.told.items is.on_report) is.how };
+        (around was.reactor.told.items was.on_report) (around is.reactor.told.items is.on_report) is.how
+        × (kept_in is.reactor.told.items is.reactor.left is.reactor.ticketer ≡ kept_in was.reactor.told.items was.reactor.left was.reactor.ticketer) };
 
     fn work(&self, post: Post<'r, R, K>) -> Post<'r, R, K> {
         let Post {
@@ -74,16 +77,7 @@ impl<
             on_report,
             on_end: self.on_end,
         };
-        let how = serve_table(
-            self.rt,
-            self.limits,
-            self.seats,
-            self.state,
-            self.app,
-            self.engine,
-            &mut reactor,
-            &mut tells,
-        );
+        let how = serve_table(self, &mut reactor, &mut tells);
         // Those that have ended are closed while other threads go on.
         reactor.finish();
         let Tells {
@@ -101,25 +95,23 @@ impl<
 /// Serves the connections of one thread.
 fn serve_table<
     H: AllocGlobal + RandomSource,
-    R: Clock,
+    R: Clock + Log,
     A,
     E: OnEnd,
     G: TableEngine<A>,
     K: Teller<Report>,
 >(
-    rt: &H,
-    limits: &Limits,
-    seats: usize,
-    state: &State,
-    app: &A,
-    engine: &G,
+    how: &Serving<'_, H, A, E, G>,
     reactor: &mut SocketReactor<'_, R>,
     tells: &mut Tells<'_, K, E>,
 ) -> Served
-    ensures { ServesSeats ⟦<PolledLine as Line>⟧.state K.tells (G.answers app.now) limits.now reactor.new.why state.now
+    ensures serves { ServesSeats ⟦<PolledLine as Line>⟧.state K.tells (G.answers how.now.app.now) how.now.limits.now reactor.new.why how.now.state.now
         (around reactor.old.told.items tells.old.on_report) (around reactor.new.told.items tells.new.on_report) result }
+    ensures kept { kept_in reactor.new.told.items reactor.new.left reactor.new.ticketer ≡ kept_in reactor.old.told.items reactor.old.left reactor.old.ticketer }
 {
-    match engine.serve(rt, limits, seats, state, app, reactor, tells) {
+    match how.engine.serve(
+        how.rt, how.limits, how.seats, how.state, how.app, reactor, tells,
+    ) {
         Ok(ended) => served_in(ended, reactor.why()),
         Err(_) => Served::NoMemory,
     }
@@ -159,43 +151,66 @@ pub(crate) fn why_of<R: Clock, K>(posts: &[Post<'_, R, K>]) -> Option<io::Error>
     }
 }
 
+/// Takes in what the ticketer of one thread has spent: a ticket for each connection that came to it.
+fn absorb<R: Clock, K: Drop>(all: &mut Ticketer<'_>, post: Post<'_, R, K>)
+    requires { IsWithin all.old.quota.now post.reactor.told.items post.reactor.left post.reactor.ticketer }
+    ensures of { all.new.quota ≡ all.old.quota }
+    ensures spent { (known all.new).spent ≡ (known all.old).spent + length (came_in post.entry.reactor.told.items) }
+{
+    let Post {
+        reactor,
+        on_report: _on_report,
+        how: _how,
+    } = post;
+    if let Some(ticketer) = reactor.into_ticketer() {
+        all.absorb(ticketer);
+    }
+}
+
+/// Takes in what each thread has spent: no more than there were tickets, so no more connections came to all threads together.
+pub(crate) fn settle<R: Clock, K: Drop>(quota: &Quota, posts: Vec<Post<'_, R, K>>)
+    requires { All (λ p. IsWithin quota.now p.reactor.told.items p.reactor.left p.reactor.ticketer) posts.items }
+    ensures { came_to (map (λ p. thread p.reactor.told.items p.on_report p.reactor.why) posts.entry.items) ≤ quota.now.count }
+{
+    let mut posts = posts;
+    let mut all = quota.ticketer();
+    while let Some(post) = posts.pop() {
+        absorb(&mut all, post);
+    }
+    all.settle();
+}
+
 /// Serves the connections of all threads, the first of which is the caller's.
 fn serve<
     'r,
     H: Host + Sync,
-    R: Clock + Sync,
+    R: Clock + Log + Sync,
     A: Application + Sync,
     E: OnEnd + Sync,
     G: TableEngineOf<A> + Sync,
     K: Teller<Report> + Drop + Send,
->(
-    rt: &H,
-    limits: &Limits,
-    seats: usize,
-    state: &State,
-    app: &A,
-    on_end: &E,
-    engine: &G,
-    posts: Vec<Post<'r, R, K>>,
-) -> (Served, Vec<Post<'r, R, K>>)
-    ensures { ServesTables ⟦<PolledLine as Line>⟧.state K.tells (A.answers app.now) limits.now state.now
+>(how: &Serving<'_, H, A, E, G>, posts: Vec<Post<'r, R, K>>) -> (Served, Vec<Post<'r, R, K>>)
+    ensures serves { ServesTables ⟦<PolledLine as Line>⟧.state K.tells (A.answers how.now.app.now) how.now.limits.now how.now.state.now
         (map (λ p. thread p.reactor.told.items p.on_report p.reactor.why) posts.entry.items)
         (map (λ p. thread p.reactor.told.items p.on_report p.reactor.why) result.1.items) result.0 }
+    ensures kept { map (λ p. kept_in p.reactor.told.items p.reactor.left p.reactor.ticketer) result.1.items ≡ map (λ p. kept_in p.reactor.told.items p.reactor.left p.reactor.ticketer) posts.entry.items }
 {
-    let how = Serving {
-        rt,
-        limits,
-        seats,
-        state,
-        app,
-        on_end,
-        engine,
-    };
-    let Abreast { parts, has_worked } = work_abreast(rt, &how, posts);
+    let Abreast { parts, has_worked } = work_abreast(how.rt, how, posts);
     if !has_worked {
         return (Served::NoThread, parts);
     }
     (all_in(parts.as_slice()), parts)
+}
+
+/// How the connections of several threads are served, and by which application.
+#[derive(Drop)]
+pub(crate) struct InThreads<'a, H, A, E, G> {
+    pub(crate) rt: &'a H,
+    pub(crate) limits: &'a Limits,
+    pub(crate) seats: usize,
+    pub(crate) app: &'a A,
+    pub(crate) on_end: &'a E,
+    pub(crate) engine: &'a G,
 }
 
 /// Starts the application, serves in each thread what its reactor gives, and stops the application. What is called as each
@@ -203,116 +218,36 @@ fn serve<
 pub(crate) fn serve_in_tables<
     'r,
     H: Host + Sync,
-    R: Clock + Sync,
+    R: Clock + Log + Sync,
     A: Application + Sync,
     E: OnEnd + Sync,
     G: TableEngineOf<A> + Sync,
     K: Teller<Report> + Drop + Send,
->(
-    rt: &H,
-    limits: &Limits,
-    seats: usize,
-    app: &A,
-    on_end: &E,
-    engine: &G,
-    posts: Vec<Post<'r, R, K>>,
-) -> (Ending, Vec<Post<'r, R, K>>)
-    ensures { (seconds : Limits) × InSeconds limits.now seconds
-        × LivesOn (ServesTables ⟦<PolledLine as Line>⟧.state K.tells (A.answers app.now) seconds) (A.answers app.now) limits.now
+>(by: &InThreads<'_, H, A, E, G>, posts: Vec<Post<'r, R, K>>) -> (Ending, Vec<Post<'r, R, K>>)
+    ensures serves { (seconds : Limits) × InSeconds by.now.limits.now seconds
+        × LivesOn (ServesTables ⟦<PolledLine as Line>⟧.state K.tells (A.answers by.now.app.now) seconds) (A.answers by.now.app.now) by.now.limits.now
         (map (λ p. thread p.reactor.told.items p.on_report p.reactor.why) posts.entry.items)
         (map (λ p. thread p.reactor.told.items p.on_report p.reactor.why) result.1.items) result.0 }
+    ensures kept { map (λ p. kept_in p.reactor.told.items p.reactor.left p.reactor.ticketer) result.1.items ≡ map (λ p. kept_in p.reactor.told.items p.reactor.left p.reactor.ticketer) posts.entry.items }
 {
-    let seconds = in_seconds(limits);
-    let Ok(solo) = Solo::new(rt, Doorbell::spinning()) else {
+    let seconds = in_seconds(by.limits);
+    let Some((solo, pause)) = solo_of(by.rt) else {
         return (Ending::NoMemory, posts);
     };
-    let Ok((here, _there)) = Resting::pair(rt.alloc()) else {
-        return (Ending::NoMemory, posts);
-    };
-    let mut pause = Napping::new(*rt, here);
-    let mut cx = solo.begin();
-    let lived = live(
-        rt, limits, &seconds, seats, app, on_end, engine, posts, &mut cx, &mut pause,
-    );
-    cx.cancel();
-    lived
-}
-
-/// Starts the application, serves, and stops it.
-fn live<
-    'r,
-    H: Host + Sync,
-    R: Clock + Sync,
-    T: AppTask,
-    A: Application<Task = T> + Sync,
-    E: OnEnd + Sync,
-    G: TableEngineOf<A> + Sync,
-    P: Pause,
-    K: Teller<Report> + Drop + Send,
->(
-    rt: &H,
-    limits: &Limits,
-    seconds: &Limits,
-    seats: usize,
-    app: &A,
-    on_end: &E,
-    engine: &G,
-    posts: Vec<Post<'r, R, K>>,
-    cx: &mut Context<'_>,
-    pause: &mut P,
-) -> (Ending, Vec<Post<'r, R, K>>)
-    ensures { LivesOrNot (ServesTables ⟦<PolledLine as Line>⟧.state K.tells (A.answers app.now) seconds.now) (A.answers app.now) limits.now
-        (map (λ p. thread p.reactor.told.items p.on_report p.reactor.why) posts.entry.items)
-        (map (λ p. thread p.reactor.told.items p.on_report p.reactor.why) result.1.items)
-        (P.count pause.old) (P.count pause.new) result.0 }
-{
-    let answer = Lifespan::start(rt.alloc(), app, limits, cx, pause);
-    follow(
-        rt, limits, seconds, seats, app, on_end, engine, answer, posts, cx, pause,
-    )
-}
-
-/// What comes after the start, by its answer: serves and stops the application if it started.
-fn follow<
-    'r,
-    H: Host + Sync,
-    R: Clock + Sync,
-    T: AppTask,
-    A: Application<Task = T> + Sync,
-    E: OnEnd + Sync,
-    G: TableEngineOf<A> + Sync,
-    P: Pause,
-    K: Teller<Report> + Drop + Send,
->(
-    rt: &H,
-    limits: &Limits,
-    seconds: &Limits,
-    seats: usize,
-    app: &A,
-    on_end: &E,
-    engine: &G,
-    answer: Start<T>,
-    posts: Vec<Post<'r, R, K>>,
-    cx: &mut Context<'_>,
-    pause: &mut P,
-) -> (Ending, Vec<Post<'r, R, K>>)
-    ensures { FollowsStart (ServesTables ⟦<PolledLine as Line>⟧.state K.tells (A.answers app.now) seconds.now) limits.now answer
-        (map (λ p. thread p.reactor.told.items p.on_report p.reactor.why) posts.entry.items)
-        (map (λ p. thread p.reactor.told.items p.on_report p.reactor.why) result.1.items)
-        (P.count pause.old) (P.count pause.new) result.0 }
-{
-    match answer {
-        Start::Started(lifespan, state) => {
-            let (served, posts) = serve(rt, seconds, seats, &state, app, on_end, engine, posts);
-            (ending_of(served, lifespan.stop(cx, pause)), posts)
+    match begin(by.rt, by.limits, by.app, &solo, pause) {
+        Begun::Lives(living, state) => {
+            let how = Serving {
+                rt: by.rt,
+                limits: &seconds,
+                seats: by.seats,
+                state: &state,
+                app: by.app,
+                on_end: by.on_end,
+                engine: by.engine,
+            };
+            let (served, posts) = serve(&how, posts);
+            (living.stop(served), posts)
         }
-        Start::Unsupported => {
-            let state = State::new(rt.alloc());
-            let (served, posts) = serve(rt, seconds, seats, &state, app, on_end, engine, posts);
-            (ending_of(served, Stop::Stopped), posts)
-        }
-        Start::Failed(message) => (Ending::StartupFailed(message), posts),
-        Start::Idle(_turns) => (Ending::NoStartup, posts),
-        Start::NoMemory => (Ending::NoMemory, posts),
+        Begun::Ends(ending) => (ending, posts),
     }
 }

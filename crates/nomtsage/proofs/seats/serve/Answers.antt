@@ -12,3 +12,9 @@ returns-in-Ok-clause-serves g c = inl (
 
 pub returns-in-Err-clause-serves : goal.returns-in-Err-clause-serves
 returns-in-Err-clause-serves g c = inr (same_around (λ t. t.on_report) _ _ _ _ (c.in-Err.ensures.no_memory refl).0 (c.in-Err.ensures.no_memory refl).2, refl)
+
+pub returns-in-Ok-clause-kept : goal.returns-in-Ok-clause-kept
+returns-in-Ok-clause-kept g c = ap (λ k. k.0) c.in-Ok.ensures.kept
+
+pub returns-in-Err-clause-kept : goal.returns-in-Err-clause-kept
+returns-in-Err-clause-kept g c = ap (λ k. k.0) c.in-Err.ensures.kept

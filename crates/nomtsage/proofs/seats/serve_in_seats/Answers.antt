@@ -1,16 +1,22 @@
 use Rattle.std.proofs.Common.{inl, inr, refl}
+use Rattle.nomtsage.proofs.LivesLemmas.{lives_not, lives_on}
 use Rattle.nomtsage.proofs.seats.serve_in_seats.Goals as goal
+
+pub returns-in-Lives-clause-serves : goal.returns-in-Lives-clause-serves
+returns-in-Lives-clause-serves g c = (
+  c.in_seconds-seconds.result,
+  c.in_seconds-seconds.ensures,
+  lives_on _ (g.A.Application.answers c.args.app.now) c.args.limits.now _ _ _ _ _ _ c.in-Lives.living c.in-Lives.state
+      c.in-Some.ensures c.in-Lives.ensures c.serve.result c.serve.ensures.serves c.stop.ensures,
+)
 
 pub returns-clause-serves : goal.returns-clause-serves
 returns-clause-serves g c = (
   c.in_seconds-seconds.result,
   c.in_seconds-seconds.ensures,
-  inl (c.live-ending.new.pause.count, rw c.new-pause.ensures at c.live-ending.ensures.lives),
+  lives_not _ (g.A.Application.answers c.args.app.now) c.args.limits.now _ _ _ _ _ _ c.in-Some.ensures c.in-Ends.ensures refl,
 )
 
 -- nothing was begun for want of memory
 pub returns-in_default-clause-serves : goal.returns-in_default-clause-serves
 returns-in_default-clause-serves g c = (c.in_seconds-seconds.result, c.in_seconds-seconds.ensures, inr (refl, inl refl))
-
-pub returns-in_default-pair-clause-serves : goal.returns-in_default-pair-clause-serves
-returns-in_default-pair-clause-serves g c = (c.in_seconds-seconds.result, c.in_seconds-seconds.ensures, inr (refl, inl refl))

@@ -3,12 +3,12 @@ use Rattle.nomtsage.specs.Seats.{served_in}
 use Rattle.nomtsage.proofs.SeatsLemmas.{same_around, served_part}
 use Rattle.nomtsage.proofs.tables.serve_table.Goals as goal
 
-pub returns-in-Ok : goal.returns-in-Ok
-returns-in-Ok g c = inl (
+pub returns-in-Ok-clause-serves : goal.returns-in-Ok-clause-serves
+returns-in-Ok-clause-serves g c = inl (
   c.in-Ok.ended,
   served_part g.K.Teller.tells (λ t. t.on_report) _ _ _ _ _ _ _ _ _ c.in-Ok.ensures.serves,
   c.served_in.ensures ∙ ap (λ w. served_in c.in-Ok.ended w) c.why.ensures,
 )
 
-pub returns-in-Err : goal.returns-in-Err
-returns-in-Err g c = inr (same_around (λ t. t.on_report) _ _ _ _ (c.in-Err.ensures.no_memory refl).0 (c.in-Err.ensures.no_memory refl).2, refl)
+pub returns-in-Err-clause-serves : goal.returns-in-Err-clause-serves
+returns-in-Err-clause-serves g c = inr (same_around (λ t. t.on_report) _ _ _ _ (c.in-Err.ensures.no_memory refl).0 (c.in-Err.ensures.no_memory refl).2, refl)

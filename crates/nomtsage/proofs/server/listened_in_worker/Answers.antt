@@ -1,5 +1,0 @@
-use Rattle.nomtsage.proofs.RunLemmas.{ran}
-use Rattle.nomtsage.proofs.server.listened_in_worker.Goals as goal
-
-pub returns : goal.returns
-returns g c = ran _ _ _ _ _ _ _ _ _ _ _ _ _ c.requires c.serve_in_worker_on-ending.ensures.serves c.result_of.ensures
