@@ -1,9 +1,9 @@
-//! A task that is given up while its connection still reads.
+//! A task that is given up while its connection still reads, or once its client has gone.
 ghost use Rattle.std.specs.Prelude.{◌≤◌, length};
 
 use asgi_apps::{AppTask, Application, Echo, WsEcho};
-use asgi_conn::{Host, Outcome};
-use asgi_fakes::{Memory, Way, line_of, serve};
+use asgi_conn::{Host, Line, Outcome};
+use asgi_fakes::{GONE, Gone, Memory, STREAM, Way, gone_line, line_of, serve};
 use asgi_types::{BadLimit, Limits};
 use std::io::{self, Read};
 use std::test::Fail;
@@ -52,9 +52,9 @@ fn give(bytes: &[u8], buf: &mut [u8]) -> usize
     n
 }
 
-/// A hundred idle turns in a row, for the task too, and ten million turns.
-fn few() -> Result<Limits, BadLimit> {
-    Limits::new(16_384, 64, 1_048_576, 16_384, 16, 100, 10_000_000)
+/// So many idle turns in a row, for the task too, and ten million turns.
+fn limits_of(idle_turns: u32) -> Result<Limits, BadLimit> {
+    Limits::new(16_384, 64, 1_048_576, 16_384, 16, idle_turns, 10_000_000)
 }
 
 fn is_given_up_over<H: Host, R: Read + Drop, T: AppTask + Send + 'static, A: Application<Task = T>>(
@@ -74,7 +74,7 @@ fn is_given_up<H: Host + Clock + Drop, T: AppTask + Send + 'static, A: Applicati
     app: &A,
     texts: (&'static [u8], &'static [u8]),
 ) -> Result<bool, Fail> {
-    let limits = few()?;
+    let limits = limits_of(100)?;
     let trickle = Trickle {
         clock: *rt,
         first: texts.0,
@@ -90,5 +90,36 @@ fn a_task_that_is_given_up_takes_its_connection_with_it(rt: HostRuntime) -> Resu
     let of_a_body = is_given_up(&rt, &Echo, BODY)?;
     let of_pings = is_given_up(&rt, &WsEcho, PINGS)?;
     assert!(rt; (of_a_body, of_pings) == (true, true));
+    Ok(())
+}
+
+/// Whether a stream that goes on in its own thread ends so once its client has gone, and that long before all turns were taken:
+/// after the idle turns of its connection, or those of its own thread, if that comes to them first.
+fn is_left_over<H: Host, L: Line>(
+    rt: &H,
+    limits: &Limits,
+    line: &mut L,
+    out: usize,
+) -> io::Result<bool> {
+    let (report, _) = serve(rt, Way::Beside, limits, &STREAM, line)?;
+    let ended = (report.outcome, report.exchanges) == (Outcome::WriteFailed(out), 1);
+    Ok(ended && report.turns < 1_000_000)
+}
+
+/// So many idle turns that a new thread has begun within them, however busy the processors are: the first hundred only let
+/// other threads go first, each later one waits for up to five milliseconds.
+const PATIENT: u32 = 250;
+
+fn is_left<H: Host>(rt: &H, row: &Gone) -> Result<bool, Fail> {
+    let limits = limits_of(PATIENT)?;
+    let mut line = gone_line(rt, row)?;
+    Ok(is_left_over(rt, &limits, &mut line, row.2)?)
+}
+
+#[test]
+fn a_stream_in_its_own_thread_ends_with_its_client(rt: HostRuntime) -> Result<(), Fail> {
+    for (place, row) in GONE.iter().enumerate() {
+        assert!(rt; is_left(&rt, row)?, "row {place}");
+    }
     Ok(())
 }

@@ -42,6 +42,8 @@ pub enum Heard {
 #[derive(Clone, Copy)]
 pub enum Step {
     Says(Said),
+    /// The task sends this again and again, without end.
+    Repeats(Said),
     /// The task sends this, which is refused by this number. If it is not, the task faults.
     IsRefused(Said, u8),
     /// The task sends this, which is ignored. If it is not, the task faults.
@@ -160,8 +162,11 @@ impl ScriptedTask {
         Some(*self.steps.get(self.at)?)
     }
 
-    /// Goes on to the next step.
-    fn pass(&mut self) {
+    /// Goes on to the next step, unless this one has no end.
+    fn pass(&mut self, step: Step) {
+        if let Step::Repeats(_) = step {
+            return;
+        }
         self.at = self.at.saturating_add(1);
     }
 }
@@ -178,7 +183,7 @@ impl AppTask for ScriptedTask {
                 if !is_so {
                     return Poll::Ready(Err(AppFault::Failed));
                 }
-                self.pass();
+                self.pass(step);
                 cx.yield_now()
             }
         }
@@ -197,6 +202,7 @@ fn goes<E: AppEnd>(alloc: Global, cx: &mut Context<'_>, end: &mut E, step: Step)
     match step {
         Step::Hears(wanted) => hears(cx, end, wanted),
         Step::Says(said) => says(alloc, cx, end, said),
+        Step::Repeats(said) => says(alloc, cx, end, said),
         Step::IsRefused(said, number) => is_turned_away(alloc, cx, end, said, Some(number)),
         Step::IsIgnored(said) => is_turned_away(alloc, cx, end, said, None),
         _ => Poll::Ready(false),

@@ -3,10 +3,12 @@
 #![tactic(auto)]
 
 mod apps;
+mod gone;
 mod lines;
 mod serving;
 pub mod texts;
 
 pub use apps::{Heard, Refuses, Said, Scripted, ScriptedTask, Sends, SendsTask, Step, Targets};
+pub use gone::{GONE, Gone, STREAM, gone_line};
 pub use lines::{Memory, Never, Pieces, Sink, line_of, text_of};
 pub use serving::{App, End, Way, is_served, is_served_so, serve, serve_by};

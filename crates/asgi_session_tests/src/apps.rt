@@ -46,6 +46,8 @@ pub enum Heard {
 #[derive(Clone, Copy)]
 pub enum Step {
     Says(Said),
+    /// The task sends this again and again, without end.
+    Repeats(Said),
     /// The task sends this, which is refused by this number. If it is not, the task faults.
     IsRefused(Said, u8),
     /// The task receives this. If it is anything else, the task faults, which the report of a connection counts.
@@ -205,6 +207,14 @@ impl ScriptedTask {
         self.at = self.at.saturating_add(1);
     }
 
+    /// Goes on to the step after this one, which may have no end.
+    fn pass_on(&mut self, step: Step) {
+        match step {
+            Step::Repeats(_) => {}
+            _ => self.pass(),
+        }
+    }
+
     /// One poll of a rest of `polls`.
     fn rest(&mut self, polls: u32) {
         self.rested = self.rested.saturating_add(1);
@@ -231,7 +241,7 @@ impl AppTask for ScriptedTask {
                 if !is_so {
                     return Poll::Ready(Err(AppFault::Failed));
                 }
-                self.pass();
+                self.pass_on(step);
                 cx.yield_now()
             }
         }
@@ -250,6 +260,7 @@ fn goes<E: AppEnd>(alloc: Global, cx: &mut Context<'_>, end: &mut E, step: Step)
     match step {
         Step::Hears(wanted) => hears(cx, end, wanted),
         Step::Says(said) => says(alloc, cx, end, said, None),
+        Step::Repeats(said) => says(alloc, cx, end, said, None),
         Step::IsRefused(said, number) => says(alloc, cx, end, said, Some(number)),
         _ => Poll::Ready(false),
     }

@@ -214,10 +214,16 @@ const ANSWERED_FIRST: (Written<'static>, Outcome) = (
     Outcome::Finished,
 );
 
+/// The client's faulty frame is read before that, and answered by a close with the code of a protocol error (7.1.7).
+const CLOSED_FIRST: (Written<'static>, Outcome) = (
+    Written::Just(&[ACCEPTED, b"\x88\x02\x03\xea"]),
+    Outcome::Finished,
+);
+
 const OWN_CLOSES_CROSSED: &[Crossed] = &[
     &[REFUSED, ANSWERED_FIRST],
     &[REFUSED],
-    &[REFUSED],
+    &[REFUSED, CLOSED_FIRST],
     &[REFUSED],
     &[REFUSED, ANSWERED_FIRST],
 ];

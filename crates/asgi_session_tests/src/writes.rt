@@ -284,3 +284,35 @@ fn a_message_after_the_clients_close_is_a_failed_write(rt: HostRuntime) -> Resul
     assert!(rt; is_so);
     Ok(())
 }
+
+/// Sends a message again and again, and receives nothing more.
+const STREAM: App = App::Scripted(&[CONNECTS, ACCEPTS, Step::Repeats(Said::Text("x"))]);
+
+/// Twenty idle turns in a row.
+fn few() -> Limits {
+    let mut limits = Limits::usual();
+    limits.idle_turns = 20;
+    limits.turns = 10_000;
+    limits
+}
+
+/// Whether its session ends by a send that failed, after the idle turns, with so many messages sent.
+fn is_given_up<H: Host>(rt: &H, line: &mut Script, sends: usize) -> io::Result<bool> {
+    let (end, idle) = serve_script(rt, Way::Inline, &few(), STREAM, line)?;
+    let ended = (end, idle) == ((Outcome::WriteFailed(0), 1, 0), 20);
+    Ok(ended && line.handed().len() == sends)
+}
+
+fn stream_fails<H: Host>(rt: &H, sends: u64) -> io::Result<bool> {
+    let line = script_of(rt.alloc(), &[HANDSHAKE], IDLE)?;
+    let mut line = line.failing_send(sends);
+    is_given_up(rt, &mut line, sends as usize)
+}
+
+#[test]
+fn messages_without_end_end_with_their_client(rt: HostRuntime) -> Result<(), Fail> {
+    for sends in [0, 1, 15, 16, 100] {
+        assert!(rt; stream_fails(&rt, sends)?, "{sends} messages");
+    }
+    Ok(())
+}

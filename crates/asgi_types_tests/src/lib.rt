@@ -1,6 +1,9 @@
-//! Tests of `asgi_types` on its public calls: the values that pass between the crates.
+//! Tests of `asgi_io` and `asgi_types` on their public calls: counted readers, writers, pauses and turns, and the values that pass
+//! between the crates.
 #![tactic(auto)]
 
+#[cfg(test)]
+mod counting;
 #[cfg(test)]
 mod edges;
 #[cfg(test)]
@@ -8,6 +11,12 @@ mod headers;
 #[cfg(test)]
 mod memory;
 #[cfg(test)]
+mod reading;
+#[cfg(test)]
 mod scopes;
 #[cfg(test)]
+mod turning;
+#[cfg(test)]
 mod values;
+#[cfg(test)]
+mod writing;
