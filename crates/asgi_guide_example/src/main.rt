@@ -13,7 +13,7 @@ mod words;
 use cache::Cache;
 use counts::Counts;
 use greets::Greets;
-use nomtsage::{AppFault, Handled, Server, Shared, Talked};
+use nomtsage::{AppFault, Handled, Server, Shared, Talked, logging};
 use orders::Orders;
 use pool::Pool;
 use says_again::SaysAgain;
@@ -24,6 +24,7 @@ fn main(rt: HostRuntime) -> Result<ExitCode, AppFault> {
     let Some((port, count, app)) = words_of(&rt) else {
         return Ok(usage(&rt));
     };
+    let rt = logging(rt);
     let alloc = rt.alloc();
     let server = Server::on(port).connections(count).log_connections(&rt);
     match app {

@@ -5,7 +5,7 @@ mod items;
 mod words;
 
 use items::Items;
-use nomtsage::{Handled, Server};
+use nomtsage::{Handled, Server, logging};
 use std::process::ExitCode;
 use words::{usage, words_of};
 
@@ -13,6 +13,7 @@ fn main(rt: HostRuntime) -> ExitCode {
     let Some((port, count)) = words_of(&rt) else {
         return usage(&rt);
     };
+    let rt = logging(rt);
     let server = Server::on(port).connections(count);
     server.log_connections(&rt).serve(&rt, &Handled::new(Items))
 }

@@ -5,7 +5,7 @@ mod chat;
 mod page;
 
 use chat::Chat;
-use nomtsage::{Both, Handled, Hosted, Server};
+use nomtsage::{Both, Handled, Hosted, Server, logging};
 use page::Page;
 use std::alloc::AllocError;
 use std::env;
@@ -18,6 +18,7 @@ fn main(rt: HostRuntime) -> Result<ExitCode, AllocError> {
         let _told = println!(rt; "usage: chat_example PORT COUNT");
         return Ok(ExitCode::from(2));
     };
+    let rt = logging(rt);
     let alloc = rt.alloc();
     let texts = Arc::new(alloc, Mutex::new(Vec::new(alloc)))?;
     let app = Both {

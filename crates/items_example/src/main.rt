@@ -4,7 +4,7 @@
 mod items;
 
 use items::table;
-use nomtsage::{RouteError, Server, Shared};
+use nomtsage::{RouteError, Server, Shared, logging};
 use std::env;
 use std::process::ExitCode;
 use std::rt::Env;
@@ -14,6 +14,7 @@ fn main(rt: HostRuntime) -> Result<ExitCode, RouteError> {
         let _told = println!(rt; "usage: items_example PORT COUNT");
         return Ok(ExitCode::from(2));
     };
+    let rt = logging(rt);
     let app = Shared::new(rt.alloc(), table(rt.alloc())?)?;
     let server = Server::on(port).connections(count);
     Ok(server.log_connections(&rt).serve(&rt, &app))

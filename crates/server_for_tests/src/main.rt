@@ -3,6 +3,7 @@
 
 mod ends;
 mod handles;
+mod hears;
 mod mounted;
 mod mute;
 mod one_thread;
@@ -14,21 +15,22 @@ mod words;
 mod workers;
 mod works;
 
+use nomtsage::logging;
 use one_thread::in_one_thread;
 use several_threads::in_threads;
 use std::io;
 use std::process::ExitCode;
 use words::{Place, usage, words_of};
-use workers::{by_workers, in_workers};
+use workers::by_workers;
 
 fn main(rt: HostRuntime) -> ExitCode {
     let Some(words) = words_of(&rt) else {
         return usage(&mut io::writer(&rt));
     };
+    let rt = logging(rt);
     match words.settings.place {
         Place::OneThread => in_one_thread(&rt, &words),
         Place::Threads(count) => in_threads(&rt, &words, count),
         Place::Blocking(count) => by_workers(&rt, &words, count),
-        Place::InWorker(count) => in_workers(&rt, &words, count),
     }
 }

@@ -1,6 +1,7 @@
 //! The applications, served in the thread that calls.
 use crate::ends::ended_by;
 use crate::handles::Handles;
+use crate::hears::that_hears;
 use crate::mounted::{limits_of, mounts};
 use crate::mute::Mute;
 use crate::routed::{rooms, routes};
@@ -78,6 +79,7 @@ fn own<H: Net + Console + Log + Host + Drop>(
         App::Slow => server.serve(rt, &tried_as(rt, Kind::Slow)),
         App::Works => server.serve(rt, &that_works(rt, false)),
         App::Waits => server.serve(rt, &that_works(rt, true)),
+        App::Hears => server.serve(rt, &that_hears(rt)),
         _ => server.serve(rt, &Hello),
     }
 }

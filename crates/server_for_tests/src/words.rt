@@ -7,7 +7,7 @@ use std::rt::Env;
 
 /// The usage text.
 const USAGE: &str =
-    "usage: server_for_tests PORT|ADDRESS COUNT APP [threads=N|blocking=N|inworker=N|slots=N|body=N|idle=N]..";
+    "usage: server_for_tests PORT|ADDRESS COUNT APP [threads=N|blocking=N|slots=N|body=N|idle=N]..";
 
 /// The application that is to be served.
 #[derive(Clone, Copy, Debug, PartialEq, Eq)]
@@ -34,6 +34,7 @@ pub enum App {
     Handles,
     Routes,
     Rooms,
+    Hears,
 }
 
 /// Where the connections are served.
@@ -45,8 +46,6 @@ pub enum Place {
     Threads(u64),
     /// By so many workers, each task in a thread beside its worker.
     Blocking(u64),
-    /// By so many workers, each task in its worker.
-    InWorker(u64),
 }
 
 /// What is set of the server.
@@ -109,7 +108,6 @@ fn set(before: Settings, word: &str) -> Option<Settings> {
     match name {
         "threads" => settings.place = Place::Threads(number),
         "blocking" => settings.place = Place::Blocking(number),
-        "inworker" => settings.place = Place::InWorker(number),
         "slots" => settings.slots = number as usize,
         "body" => settings.body = number,
         "idle" => settings.idle = u32::try_from(number).ok()?,
@@ -148,6 +146,7 @@ fn other_named(name: &str) -> Option<App> {
         "handles" => Some(App::Handles),
         "routes" => Some(App::Routes),
         "rooms" => Some(App::Rooms),
+        "hears" => Some(App::Hears),
         _ => None,
     }
 }

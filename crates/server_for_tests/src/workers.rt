@@ -3,6 +3,7 @@ use crate::ends::ended_by;
 use crate::handles::Handles;
 use crate::mounted::limits_of;
 use crate::silent::Silent;
+use crate::tries::{Kind, tried_as};
 use crate::words::{App, Words};
 use crate::works::that_works;
 use log::Log;
@@ -49,26 +50,8 @@ where
         App::SilentStart => server.serve(rt, &Silent::Start),
         App::SilentStop => server.serve(rt, &Silent::Stop),
         App::Works => server.serve(rt, &that_works(rt, false)),
+        App::Flood => server.serve(rt, &tried_as(rt, Kind::Flood)),
         App::Handles => server.serve(rt, &Handled::new(Handles)),
-        _ => server.serve(rt, &Hello),
-    }
-}
-
-/// Serves the application by so many workers, each task in its worker. One that is none of these is `Hello`.
-pub fn in_workers<
-    S: OpenStream + Read + Write + Drop + Send,
-    H: Net<Stream = S> + Console + Log + Host + Sync + Drop,
->(rt: &H, words: &Words, count: u64) -> ExitCode
-where
-    H::Listener: Send,
-{
-    let server = Server::at(words.address)
-        .connections(words.count)
-        .limits(limits_of(&words.settings))
-        .in_worker(rt)
-        .workers(count);
-    match words.app {
-        App::Works => server.serve(rt, &that_works(rt, false)),
         _ => server.serve(rt, &Hello),
     }
 }

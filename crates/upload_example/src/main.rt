@@ -3,7 +3,7 @@
 
 mod upload;
 
-use nomtsage::{BadLimit, Limits, Server};
+use nomtsage::{BadLimit, Limits, Server, logging};
 use std::process::ExitCode;
 use std::rt::Env;
 use upload::Upload;
@@ -15,6 +15,7 @@ fn main(rt: HostRuntime) -> Result<ExitCode, BadLimit> {
     };
     // Bodies of up to 10 MiB, in pieces of up to 64 KiB.
     let limits = Limits::new(16_384, 64, 10 << 20, 65_536, 16, 30_000, 1 << 40)?;
+    let rt = logging(rt);
     let server = Server::on(port).connections(count).limits(limits);
     Ok(server.log_connections(&rt).serve(&rt, &Upload))
 }
