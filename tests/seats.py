@@ -1,11 +1,14 @@
 #!/usr/bin/env python3
 """The program of `crates/asgi_many_example`, which serves many connections in one thread, by sockets and by wrk.
 
-Usage: seats.py [PROGRAM]. The last line is 'N passed, M failed', and the status is 0 only with none failed.
+Usage: seats.py [PROGRAM [TEST..]]. The last line is 'N passed, M failed', and the status is 0 only with none failed.
 Each server is started by its test, and has ended at its end: how many connections it says to have served, and how many
 requests they had, are a part of each test.
 """
 
+import contextlib
+import os
+import re
 import resource
 import select
 import shutil
@@ -13,32 +16,39 @@ import socket
 import struct
 import subprocess
 import sys
+import tempfile
 import threading
 import time
 import unittest
 from concurrent.futures import ThreadPoolExecutor
 
+import packages
 import servers
 from many import echoed, greeted, read_exactly
-from servers import GET, GREETING, SECONDS, TOP, read_all, run
+from servers import GET, GREETING, HANDSHAKE, SECONDS, TOP, read_all, run
+from servers_of import NOTES
 
 PROGRAM = f"{TOP}/crates/asgi_many_example/out/asgi_many_example"
 CLIENTS, REQUESTS = 64, 20
 MEBIBYTE = servers.MEBIBYTE
 # How long the answer is that echoes a mebibyte, in blocks of the usual limits.
 ECHOED = 1_049_180
+# Frames of RFC 6455, sections 5.2 and 5.5: a ping of the server, and its close with 1011; a pong of a client, a text, one of 20 bytes and a close with 1000,
+# masked by zeros.
+ASKED, NO_ANSWER = b"\x89\x00", b"\x88\x02\x03\xf3"
+PONG, HI, LONG, CLOSES = b"\x8a\x80" + bytes(4), b"\x81\x82" + bytes(4) + b"hi", b"\x81\x94" + bytes(24), b"\x88\x82" + bytes(4) + b"\x03\xe8"
 
 
 class Server:
     """The program with so many seats, which serves so many connections, and then ends by itself."""
 
-    def __init__(self, app, count, seats=128, files=None, tick=None):
+    def __init__(self, app, count, seats=128, files=None, tick=None, held=None, env=None):
         self.port = servers.free_port()
         self.url = f"http://127.0.0.1:{self.port}/"
-        words = [PROGRAM, f"127.0.0.1:{self.port}", str(seats), str(count), app, *([str(tick)] if tick else [])]
+        words = [PROGRAM, f"127.0.0.1:{self.port}", str(seats), str(count), app, *[str(it) for it in (tick, held) if it]]
         pipes = {"stdin": subprocess.DEVNULL, "stdout": subprocess.PIPE, "stderr": subprocess.PIPE}
         limit = (lambda: resource.setrlimit(resource.RLIMIT_NOFILE, (files, files))) if files else None
-        self.ran = subprocess.Popen(words, preexec_fn=limit, **pipes)
+        self.ran = subprocess.Popen(words, preexec_fn=limit, env={**os.environ, **(env or {})}, **pipes)
 
     def __enter__(self):
         servers.wait_for(lambda: servers.listens(self.port) or self.ran.poll() is not None, "the server does not listen")
@@ -54,14 +64,26 @@ class Server:
     def ended(self):
         """What it printed below the line of its address, what on standard error, and its status, once it has ended."""
         output, errors = self.ran.communicate(timeout=SECONDS)
-        lines = output.decode().splitlines()
+        lines, errors = output.decode().splitlines(), errors.decode().splitlines(keepends=True)
         assert lines[:1] == [f"listening on 127.0.0.1:{self.port}"], lines
-        return lines[1:], errors.decode(), self.ran.returncode
+        self.notes = [it.partition("] ")[2].rstrip() for it in errors if NOTES.search(it)]
+        return lines[1:], "".join(it for it in errors if not NOTES.search(it)), self.ran.returncode
 
     def ticks(self):
         """The processor time that it has used, in ticks of the system."""
         with open(f"/proc/{self.ran.pid}/stat", encoding="ascii") as it:
             return sum(map(int, it.read().rpartition(")")[2].split()[11:13]))
+
+
+def opened(server):
+    """A connection in a session, of whose answer nothing follows the head."""
+    line = server.connect()
+    line.sendall(HANDSHAKE)
+    head = b""
+    while not head.endswith(b"\r\n\r\n"):
+        head += read_exactly(line, 1)
+    assert head.startswith(b"HTTP/1.1 101 "), head
+    return line
 
 
 def sums(connections, requests):
@@ -81,6 +103,30 @@ def narrow(server):
     return line
 
 
+def room_of_sockets():
+    """How many bytes the system takes at the most of what one side of a connection sends, and the other has not read (tcp(7))."""
+    most = 0
+    for name in ("tcp_rmem", "tcp_wmem"):
+        with open(f"/proc/sys/net/ipv4/{name}", encoding="ascii") as it:
+            most += int(it.read().split()[2])
+    return most
+
+
+def sends_all(line, text):
+    """Sends the text, or as much of it as the server takes."""
+    with contextlib.suppress(OSError):
+        line.sendall(text)
+
+
+def reads(line, size):
+    """Reads so many bytes, or those that come before the line is reset."""
+    text = b""
+    with contextlib.suppress(OSError):
+        while len(text) < size and (piece := line.recv(size - len(text))):
+            text += piece
+    return text
+
+
 def body_of(answer):
     """The body of an answer in chunks."""
     head, _, rest = answer.partition(b"\r\n\r\n")
@@ -91,6 +137,12 @@ def body_of(answer):
             return head, body
         body, rest = body + rest[: int(size, 16)], rest[int(size, 16) + 2 :]
     return head, None
+
+
+def calls_of(room):
+    """The library by which calls of a server do less than they are asked for, built in this folder."""
+    subprocess.run(["gcc", "-shared", "-fPIC", "-O1", "-Wall", "-o", f"{room}/fail_once.so", f"{TOP}/tests/fail_once.c", "-ldl"], check=True)
+    return f"{room}/fail_once.so"
 
 
 def greets(line):
@@ -134,6 +186,32 @@ class Seats(unittest.TestCase):
                 self.assertEqual(body_of(read_all(line))[1], text)
             self.assertEqual(server.ended(), sums(3, 2))
 
+    def test_a_client_that_sends_in_bursts_is_given_up(self):
+        # 70 bytes in every third tick or so: enough for that tick, and too few for all. The 20,000 of them would take 17 seconds.
+        body = b"POST / HTTP/1.1\r\nHost: a\r\nContent-Length: 20000\r\n\r\n"
+        with Server("echo", 1, tick=20) as server:
+            with server.connect() as line:
+                line.sendall(body)
+                self.assertTrue(5 < (drip(line, b"a" * 20_000, 70, 0.06) or 0) < 120)
+            self.assertEqual(server.ended(), sums(1, 1))
+
+    def test_a_client_that_takes_a_byte_now_and_then_is_given_up(self):
+        # A send takes one byte of the answer, of which there are a thousand, and the next one is made at the next tick: for 30 ticks, and
+        # one more for each 64 bytes. One server goes on with the connection after the answer, and the other closes it.
+        asked = post(b"a" * 1_000)
+        for given in (asked, asked.replace(b"Connection: close\r\n", b"")):
+            with self.subTest(given=given[:40]), tempfile.TemporaryDirectory() as room:
+                with Server("echo", 1, tick=20, env={"LD_PRELOAD": calls_of(room), "FAIL_MOST": "1"}) as server:
+                    with server.connect() as line:
+                        line.sendall(given)
+                        text, until = b"", time.monotonic() + 10
+                        with contextlib.suppress(ConnectionError):
+                            while time.monotonic() < until and (piece := line.recv(1 << 16)):
+                                text += piece
+                        self.assertTrue(20 < len(text) < 100)
+                    self.assertEqual(server.ended(), sums(1, 1))
+                    self.assertRegex("".join(server.notes), r"^\d+ bytes for 127\.0\.0\.1 port \d+ were not taken in time$")
+
     def test_clients_that_keep_their_connections(self):
         with Server("hello", CLIENTS) as server:
             with ThreadPoolExecutor(CLIENTS) as pool:
@@ -163,6 +241,20 @@ class Seats(unittest.TestCase):
                 line.close()
             self.assertEqual(server.ended(), sums(4, 4))
 
+    def test_that_newcomers_wait_is_said_in_the_log(self):
+        # A tick is 50 milliseconds, and what sits in a session gives its seat to nobody. It is said once in 60 ticks.
+        with Server("wsecho", 2, seats=1, tick=50) as server:
+            with server.connect() as line, server.connect() as waiting:
+                line.sendall(HANDSHAKE)
+                self.assertTrue(line.recv(4096).startswith(b"HTTP/1.1 101 "))
+                time.sleep(1)
+                line.close()
+                waiting.sendall(HANDSHAKE)
+                self.assertTrue(waiting.recv(4096).startswith(b"HTTP/1.1 101 "))
+            self.assertEqual(server.ended(), sums(2, 2))
+            self.assertEqual({re.sub(r"\d+", "N", it) for it in server.notes}, {"newcomers have waited for N seconds: all slots are taken"})
+            self.assertLess(len(server.notes), 5)
+
     def test_sessions(self):
         with Server("wsecho", CLIENTS) as server:
             with ThreadPoolExecutor(CLIENTS) as pool:
@@ -183,8 +275,8 @@ class Seats(unittest.TestCase):
             self.assertEqual(server.ended(), sums(8, 8))
 
     def test_clients_that_do_not_read_hold_up_no_other_and_get_all_in_the_end(self):
-        # What the system takes for a client that does not read is some megabytes.
-        requests, clients = 12, 3
+        # Each sends more than the system takes for a client that does not read, and four mebibytes.
+        requests, clients = room_of_sockets() // len(MEBIBYTE) + 4, 3
         body = post(MEBIBYTE).replace(b"Connection: close\r\n", b"")
         with Server("echo", clients + 5) as server:
             slow = [narrow(server) for _ in range(clients)]
@@ -207,6 +299,28 @@ class Seats(unittest.TestCase):
                 send.join()
                 line.close()
             self.assertEqual(server.ended(), sums(clients + 5, clients * requests + 5))
+
+    def test_what_is_held_for_all_clients_is_bounded(self):
+        # Some 70,000 bytes are held for each that takes nothing, so that half a mebibyte for all is enough for seven. A tick is half
+        # a second: none is given up here because nothing of it leaves, which takes fifteen seconds.
+        requests, clients = 3, 16
+        body = post(MEBIBYTE).replace(b"Connection: close\r\n", b"")
+        with Server("echo", clients + 1, tick=500, held=1 << 19) as server:
+            slow = [narrow(server) for _ in range(clients)]
+            sends = [threading.Thread(target=sends_all, args=(line, body * requests)) for line in slow]
+            for send in sends:
+                send.start()
+            time.sleep(2.5)
+            with server.connect() as line:
+                line.sendall(post(b"abc"))
+                self.assertEqual(body_of(read_all(line))[1], b"abc")
+            whole = [len(reads(line, requests * ECHOED)) == requests * ECHOED for line in slow]
+            for send, line in zip(sends, slow):
+                send.join()
+                line.close()
+            # Those for which most is held are given up, and others get all.
+            self.assertTrue(0 < sum(whole) < clients, whole)
+            self.assertEqual(server.ended()[1:], ("", 0))
 
     def test_a_thousand_silent_clients_and_one_that_asks(self):
         silent = 1000
@@ -299,6 +413,51 @@ class Seats(unittest.TestCase):
             self.assertEqual((errors, status), ("", 0))
             self.assertTrue(line.startswith("1 connections, "), line)
 
+    def test_a_silent_session_is_asked_after_twenty_ticks_and_stays_open_by_its_answers(self):
+        with Server("wsecho", 1, tick=50) as server, opened(server) as line:
+            # Five pings are 100 ticks: with no sign of life it would be given up after 75.
+            for _ in range(5):
+                began = time.monotonic()
+                self.assertEqual(read_exactly(line, 2), ASKED)
+                self.assertGreater(time.monotonic() - began, 0.8)
+                line.sendall(PONG)
+            line.sendall(HI)
+            self.assertEqual(read_exactly(line, 4), b"\x81\x02hi")
+            line.sendall(CLOSES)
+            self.assertEqual(read_all(line), b"\x88\x02\x03\xe8")
+            line.close()
+            self.assertEqual(server.ended(), sums(1, 1))
+
+    def test_a_session_whose_client_does_not_answer_is_closed_with_1011_after_forty_ticks(self):
+        with Server("wsecho", 2, tick=50) as server, opened(server) as line, opened(server) as speaks:
+            began = time.monotonic()
+            # One that has spoken, and one that has answered once, are asked and given up as any other.
+            speaks.sendall(HI)
+            self.assertEqual(read_exactly(speaks, 6), b"\x81\x02hi" + ASKED)
+            speaks.sendall(PONG)
+            self.assertEqual(read_all(line), ASKED + NO_ANSWER)
+            self.assertGreater(time.monotonic() - began, 1.8)
+            self.assertEqual(read_all(speaks), ASKED + NO_ANSWER)
+            line.close()
+            speaks.close()
+            self.assertEqual(server.ended(), sums(2, 2))
+
+    def test_a_session_that_speaks_gets_no_ping(self):
+        with Server("wsecho", 1, tick=50) as server, opened(server) as line:
+            for _ in range(12):
+                line.sendall(HI)
+                self.assertEqual(read_exactly(line, 4), b"\x81\x02hi")
+                time.sleep(0.25)
+            # So does one of whose message some bytes come.
+            for byte in LONG:
+                line.sendall(bytes([byte]))
+                time.sleep(0.1)
+            self.assertEqual(read_exactly(line, 22), b"\x81\x14" + bytes(20))
+            line.sendall(CLOSES)
+            self.assertEqual(read_all(line), b"\x88\x02\x03\xe8")
+            line.close()
+            self.assertEqual(server.ended(), sums(1, 1))
+
     def test_few_descriptors(self):
         # Five are its own; what is left is for clients, and the others wait until one has gone.
         with Server("hello", CLIENTS, files=12) as server:
@@ -333,9 +492,10 @@ def main():
     global PROGRAM
     if len(sys.argv) > 1:
         PROGRAM = sys.argv[1]
-    if not shutil.which("wrk"):
-        subprocess.run(["apt-get", "install", "-y", "-q", "wrk"], stdout=subprocess.DEVNULL, stderr=subprocess.DEVNULL, check=False)
-    suite = unittest.defaultTestLoader.loadTestsFromTestCase(Seats)
+    packages.install(lambda: packages.of({"wrk": "wrk"}))
+    loader = unittest.defaultTestLoader
+    loader.testNamePatterns = [f"*{it}*" for it in sys.argv[2:]] or None
+    suite = loader.loadTestsFromTestCase(Seats)
     result = unittest.TextTestRunner(stream=sys.stdout, verbosity=2).run(suite)
     failed = len({getattr(test, "test_case", test).id() for test, _ in [*result.failures, *result.errors]})
     print(f"{result.testsRun - failed - len(result.skipped)} passed, {failed} failed")
