@@ -9,15 +9,17 @@ server of four connections: one that is served, one whose calls fail, and two mo
 import contextlib
 import errno
 import os
+import re
 import subprocess
 import sys
 import tempfile
+import time
 from concurrent.futures import ThreadPoolExecutor
 
 import servers_of
 from faults import LASTING, PASSED_OVER, WAITED_FOR, failing
-from servers import GREETING, SECONDS, free_port
-from servers_of import FAILED, FOUR, ONE, WORKERS, Running, asks
+from servers import GREETING, SECONDS, free_port, read_all
+from servers_of import FAILED, FOUR, ONE, WORKERS, Running, asks, well
 
 ROOM = tempfile.TemporaryDirectory()
 LIBRARY = f"{ROOM.name}/fail_once.so"
@@ -60,8 +62,7 @@ class Failing(Running):
         os.remove(self.file)
 
 
-@asks(ONE, FOUR, WORKERS)
-class Calls:
+class Rows:
     """Each row: a call, its error, how often it fails, what the client sees meanwhile, and what is told of it."""
 
     def row(self, given):
@@ -98,6 +99,11 @@ class Calls:
                 with self.subTest(call=row[0], error=row[1], times=row[2]):
                     self.assertEqual((found, wrong), (row[3], None))
 
+
+@asks(ONE, FOUR, WORKERS)
+class Calls(Rows):
+    """Calls that fail on each server."""
+
     def test_a_connection_that_is_lost_is_passed_over(self):
         # After EAGAIN no connection is there, until the next one comes or a second has gone.
         rows = [("accept", name, times, GREETED, "17 finished") for name in PASSED_OVER for times in (1, 500)]
@@ -111,13 +117,23 @@ class Calls:
 
     def test_what_a_socket_is_not_set_to_is_done_without(self):
         # Workers set it before they read, and the connection is lost.
-        self.rows([("setsockopt", "EINVAL", EVER, *((CLOSED, "0 input-broke") if self.server == WORKERS else (GREETED, "17 finished")))])
+        seen_and_told = (CLOSED, "0 input-broke") if self.server == WORKERS else (GREETED, "17 finished")
+        self.rows([("setsockopt", "EINVAL", times, *seen_and_told) for times in (1, EVER)])
+
+    def test_a_socket_that_the_system_does_not_tell_of_is_lost(self):
+        # Workers ask for none.
+        seen_and_told = (GREETED, "17 finished") if self.server == WORKERS else (CLOSED, None)
+        self.rows([("epoll_ctl", name, times, *seen_and_told) for name in ("ENOMEM", "ENOSPC") for times in (1, EVER)])
+
+    def test_a_call_that_is_not_made_is_not_missed(self):
+        self.rows([("eventfd", "EMFILE", times, GREETED, "17 finished") for times in (1, EVER)])
 
     def test_a_socket_that_breaks_is_told_as_the_client_s_end(self):
         self.rows([("recv", name, 1, CLOSED, "0 input-broke") for name in ("ECONNRESET", "ETIMEDOUT", "EIO", "ENOTCONN")])
 
     def test_a_close_or_a_shutdown_that_fails_ends_no_other(self):
-        self.rows([(call, name, EVER, GREETED, "17 finished") for call, name in (("close", "EIO"), ("close", "EINTR"), ("shutdown", "ENOTCONN"))])
+        calls = (("close", "EIO"), ("close", "EINTR"), ("shutdown", "ENOTCONN"))
+        self.rows([(call, name, times, GREETED, "17 finished") for call, name in calls for times in (1, EVER)])
 
     def test_a_clock_that_fails_holds_nobody(self):
         self.rows([("clock_gettime", "EINVAL", times, GREETED, "17 finished") for times in (1, EVER)])
@@ -132,6 +148,78 @@ class Calls:
                     self.assertEqual(seen(server), CLOSED)
                     ended = server.ended()
                 self.assertEqual((ended.reports, ended.others, ended.status), (["1 finished"], [FAILED[self.server](error)], 5))
+
+
+# What the log says of bytes that a connection was told to be written.
+UNSENT = re.compile(r"(\d+) bytes for 127\.0\.0\.1 port (\d+) could not be sent: (.*)")
+
+
+@asks(ONE, FOUR)
+class Reactors(Rows):
+    """Calls of servers in one thread or several, and what their log says of them."""
+
+    def test_what_has_not_left_is_said_in_the_log(self):
+        for name in ("EPIPE", "ECONNRESET"):
+            error = getattr(errno, name)
+            with self.subTest(error=name), Failing(self.server, "hello", 2, "send", error) as server:
+                with server.fails(), server.connect() as line:
+                    port, answer = line.getsockname()[1], b""
+                    line.sendall(CLOSES)
+                    with contextlib.suppress(ConnectionError):
+                        answer = read_all(line)
+                    server.told(1)
+                self.assertEqual((answer, seen(server)), (b"", GREETED))
+                ended = server.ended()
+                self.assertEqual((ended, len(server.notes)), (well("1 finished", "1 finished"), 1))
+                bytes_, of, why = UNSENT.fullmatch(server.notes[0]).groups()
+                self.assertEqual((of, why), (str(port), f"{os.strerror(error)} (os error {error})"))
+                self.assertGreater(int(bytes_), len(GREETING))
+
+    def test_a_send_for_which_memory_is_short_is_made_again(self):
+        self.rows([("send", name, times, GREETED, "17 finished") for name in ("ENOBUFS", "ENOMEM") for times in (1, 3)])
+
+    def test_a_wait_that_fails_a_few_times_is_made_again(self):
+        self.rows([("epoll_wait", "EINVAL", 2, GREETED, "17 finished")])
+
+    def test_a_wait_that_fails_for_ever_ends_the_server(self):
+        with Failing(self.server, "hello", 2, "epoll_wait", errno.EINVAL, EVER) as server:
+            self.assertEqual(seen(server), GREETED)
+            server.told(1)
+            with server.fails():
+                time.sleep(3)
+                # It does not spin until then.
+                self.assertLess(server.ticks(), 100)
+                ended = server.ended()
+            self.assertEqual((ended.reports, ended.others, ended.status), (["1 finished"], [FAILED[self.server](errno.EINVAL)], 5))
+
+    def test_a_connection_that_can_not_be_waited_for_is_said_in_the_log(self):
+        with Failing(self.server, "hello", 2, "epoll_ctl", errno.ENOSPC) as server:
+            with server.fails():
+                self.assertEqual(seen(server), CLOSED)
+            self.assertEqual([seen(server) for _ in range(2)], [GREETED] * 2)
+            said = f"1 connections were closed as they came: {os.strerror(errno.ENOSPC)} (os error {errno.ENOSPC})"
+            self.assertEqual((server.ended(), server.notes), (well("1 finished", "1 finished"), [said]))
+
+
+@asks(ONE, FOUR)
+class Ending:
+    """A server that has served as many connections as were set, and holds what it said to them."""
+
+    def test_what_waits_for_room_as_a_server_ends_is_sent(self):
+        # A refusal ends its connection at once, so all of them end, in each thread, while the sockets take nothing.
+        count = 32
+        with Failing(self.server, "hello", count, "send", errno.EAGAIN, EVER) as server:
+            with server.fails():
+                lines = [server.connect() for _ in range(count)]
+                for line in lines:
+                    line.sendall(b"GET / HTTP/1.1\r\n\r\n")
+                server.told(count)
+            answers = []
+            for line in lines:
+                with line, contextlib.suppress(ConnectionError):
+                    answers.append(read_all(line).partition(b"\r\n")[0])
+            self.assertEqual(answers, [b"HTTP/1.1 400 Bad Request"] * count)
+            self.assertEqual(server.ended(), well(*["0 refused 400"] * count))
 
 
 def main():

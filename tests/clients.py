@@ -20,7 +20,7 @@ from concurrent.futures import ThreadPoolExecutor
 
 import servers_of
 from faults import FILLED, PING, Flood, ask_in_vain
-from many import MOST, greeted
+from many import MOST, greeted, read_exactly
 from servers import GET, GREETING, HANDSHAKE, SECONDS, free_port, read_all
 from servers_of import FOUR, ONE, WORKERS, Running, asks, well
 
@@ -279,6 +279,55 @@ class Gone(Case):
             self.assertEqual([f"{it.requests} {it.how}" for it in server.reports()], ["1 finished"] * 20)
 
 
+class Streamed(Case):
+    """Clients that go while they are sent a stream without end, by a task that receives nothing."""
+
+    def goes(self, server):
+        """A client that takes a mebibyte of the stream, and resets."""
+        line = server.connect(4_096)
+        line.sendall(GET)
+        self.assertTrue(read_exactly(line, MEBIBYTE).startswith(b"HTTP/1.1 200 OK\r\n"))
+        resets(line)
+
+
+@asks(ONE, FOUR)
+class Streams(Streamed):
+    """Such a client has a slot."""
+
+    def test_a_stream_ends_with_its_client(self):
+        # 400 idle turns are a second: its slot, the only one, is free after three.
+        with self.serves("flood", 2, "idle=1200", "slots=1") as server:
+            own = server.rests()
+            for number in (1, 2):
+                self.goes(server)
+                time.sleep(0.5)
+                before = server.ticks()
+                time.sleep(1)
+                # A fifth of a processor at most.
+                self.assertLess(server.ticks() - before, 20)
+                self.assertRegex(server.told(number)[-1].how, r"^write-failed \d+$")
+                if number == 1:
+                    self.assertEqual(server.rests(own), own)
+            ended = server.ended()
+            self.assertEqual((len(ended.reports), ended.others, ended.status), (2, [], 0))
+
+
+# A server of one worker, whose stream ends after so many idle turns.
+WORKER = ("blocking=1", "idle=1000")
+
+
+@asks(ONE)
+class StreamsOfWorkers(Streamed):
+    """Such a client has a worker."""
+
+    def test_a_stream_of_a_worker_ends_with_its_client(self):
+        with self.serves("flood", 2, *WORKER) as server:
+            # The second one is served once the worker is free.
+            self.goes(server)
+            self.goes(server)
+            self.assertEqual(server.ran.wait(SECONDS), 0)
+
+
 @asks(ONE, FOUR)
 class Told(Case):
     """What a line of the log says of a connection is what its client knows."""
@@ -387,7 +436,9 @@ class Little(Case):
                 ended = server.ended()
                 self.assertIn((ended.others, ended.status), [([], 0), (["device fault"], 5), (["out of memory"], 5)])
                 self.assertEqual([it for it in ended.reports if not report.fullmatch(it)], [])
-                self.assertEqual(ended.reports.count("1 finished"), sum(bool(whole.fullmatch(it)) for it in answers))
+                # A line of the log may find no memory either: it is counted then, in its place.
+                untold = sum(bool(whole.fullmatch(it)) for it in answers) - ended.reports.count("1 finished")
+                self.assertTrue(0 <= untold <= server.lost, f"{untold} are not told of, {server.lost} lines were lost")
 
 
 def main():

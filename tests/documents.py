@@ -269,7 +269,7 @@ BAD = [
     ("See `handler_is_called_twice`.", "crates/asgi_handlers/README.md", "is a wrong body"),
     ("The judge is asked.", "README.md", "not explained"),
     ("It is long." + " word" * 900, "README.md", "at most 900"),
-    ("It is long." + " word" * 150, "crates/asgi_io_tests/README.md", "at most 150"),
+    ("It is long." + " word" * 150, "crates/asgi_log_tests/README.md", "at most 150"),
     ("Another one.", "docs/READING.md", "none of the documents"),
     ("Another one.", "crates/asgi_io/NOTES.md", "none of the documents"),
 ]

@@ -8,6 +8,7 @@ sees which edits are due. The last line is 'N passed, M failed'.
 
 import contextlib
 import io
+import math
 import os
 import subprocess
 import sys
@@ -275,6 +276,20 @@ def beside(rt):
             yield None if is_right else f"beside a run that proved {sorted(proved)} are tried {tried}, and then {left}"
 
 
+def limited(rt):
+    """Yields what is wrong, or None, of edits whose time is over before a group of them is begun, or while that is tried: what was not tried is left, and due."""
+    for until, wanted in ((math.inf, (3, 0)), (0, (0, 3))):
+        with tempfile.TemporaryDirectory(prefix="two-") as root, tempfile.TemporaryDirectory() as room:
+            write(root, TWO)
+            crates, choice = choice_in(room, rt, root)
+            trial = must_fail.Trial(rt, room, crates, choice)
+            trial.until, trial.cleared, trial.attempt = until, lambda crate, edits: [], lambda crate, edit: (True, "")
+            given = {(it.name, "proof"): True for it in crates}
+            found = [it for crate in crates for edits in trial.groups()[crate] for it in trial.attempt_all(crate, edits, given)]
+            is_right = (len(found), trial.left) == wanted and len(choice.record.sums) == wanted[0]
+            yield None if is_right else f"of three edits {found} are tried, {trial.left} are left, and the record has {sorted(choice.record.sums)}"
+
+
 def grouped():
     """Yields what is wrong, or None, of the groups in which a repository's edits are tried: each edit is in one, which has one at most of each function, and
     no more than may be tried at once."""
@@ -400,7 +415,7 @@ def lines():
 
 def main():
     rt = load_rt()
-    found = [*changed(rt), *faulty(rt), *draws(rt), *beside(rt), *grouped(), *halved(), *told(), *built(), *gate(), *lines(), *try_small(rt)]
+    found = [*changed(rt), *faulty(rt), *draws(rt), *beside(rt), *limited(rt), *grouped(), *halved(), *told(), *built(), *gate(), *lines(), *try_small(rt)]
     failed = [it for it in found if it]
     for it in failed:
         print(f"FAILED: self-test: {it}")

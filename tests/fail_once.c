@@ -1,9 +1,9 @@
 // A library for LD_PRELOAD: some calls of a kind fail, as a system does at a bad moment.
 //
-// FAIL_CALL names the call: socket, accept, setsockopt (where it turns TCP_NODELAY on), getsockname, pthread_create, epoll_wait,
-// epoll_ctl, recv, send, shutdown, close (which closes all the same), or clock_gettime. FAIL_ERROR is the number of its error,
-// FAIL_TIMES how many calls fail, 1 where it is not there, and FAIL_AFTER behind how many, 0 where it is not there. Where
-// FAIL_WHILE names a file, calls fail only as long as it is there.
+// FAIL_CALL names the call: socket, accept, setsockopt (where it turns TCP_NODELAY on), getsockname, pthread_create, epoll_create1,
+// epoll_wait, epoll_ctl, eventfd, recv, send, shutdown, close (which closes all the same), or clock_gettime. FAIL_ERROR is the number
+// of its error, FAIL_TIMES how many calls fail, 1 where it is not there, and FAIL_AFTER behind how many, 0 where it is not there. Where
+// FAIL_WHILE names a file, calls fail only as long as it is there. Where FAIL_MOST is there, a send takes at most so many bytes.
 #define _GNU_SOURCE
 #include <dlfcn.h>
 #include <errno.h>
@@ -14,6 +14,7 @@
 #include <string.h>
 #include <sys/epoll.h>
 #include <sys/socket.h>
+#include <sys/syscall.h>
 #include <time.h>
 #include <unistd.h>
 
@@ -87,6 +88,22 @@ int pthread_create(pthread_t *thread, const pthread_attr_t *how, void *(*does)(v
     return fails("pthread_create") ? errno : next(thread, how, does, with);
 }
 
+int epoll_create1(int flags)
+{
+    static int (*next)(int);
+    if (!next)
+        next = (int (*)(int))dlsym(RTLD_NEXT, "epoll_create1");
+    return fails("epoll_create1") ? -1 : next(flags);
+}
+
+int eventfd(unsigned int count, int flags)
+{
+    static int (*next)(unsigned int, int);
+    if (!next)
+        next = (int (*)(unsigned int, int))dlsym(RTLD_NEXT, "eventfd");
+    return fails("eventfd") ? -1 : next(count, flags);
+}
+
 int epoll_wait(int poll, struct epoll_event *events, int most, int patience)
 {
     static int (*next)(int, struct epoll_event *, int, int);
@@ -116,7 +133,9 @@ ssize_t send(int socket, const void *bytes, size_t size, int flags)
     static ssize_t (*next)(int, const void *, size_t, int);
     if (!next)
         next = (ssize_t (*)(int, const void *, size_t, int))dlsym(RTLD_NEXT, "send");
-    return fails("send") ? -1 : next(socket, bytes, size, flags);
+    const char *most = getenv("FAIL_MOST");
+    size_t many = most && (size_t)atol(most) < size ? (size_t)atol(most) : size;
+    return fails("send") ? -1 : next(socket, bytes, many, flags);
 }
 
 int shutdown(int socket, int how)
@@ -138,8 +157,6 @@ int close(int file)
 
 int clock_gettime(clockid_t clock, struct timespec *time)
 {
-    static int (*next)(clockid_t, struct timespec *);
-    if (!next)
-        next = (int (*)(clockid_t, struct timespec *))dlsym(RTLD_NEXT, "clock_gettime");
-    return fails("clock_gettime") ? -1 : next(clock, time);
+    // By the system's own call: an allocator may ask for the time, and looking for the next one allocates.
+    return fails("clock_gettime") ? -1 : (int)syscall(SYS_clock_gettime, clock, time);
 }

@@ -1,15 +1,11 @@
 #!/usr/bin/env python3
 """What may happen to the built program as a server: calls of the system that fail, clients that take nothing, and signals.
 
-Usage: faults.py PROGRAM [TEST..], or faults.py --edits [NAME..]. The last line is 'N passed, M failed', and the status is 0
-only with none failed. The program of `crates/server_for_tests` is tried too.
+Usage: faults.py PROGRAM [TEST..]. The last line is 'N passed, M failed', and the status is 0 only with none failed. The program of
+`crates/server_for_tests` is tried too.
 Calls fail by a library that is preloaded (tests/fail_once.c), which gcc builds here, and descriptors are taken away by a
 limit of the system. What accept(2) says of its errors is the source of the first table. The clients are sockets of this
 script and Python's `http.client`. Each server is started by its test, and has ended at its end.
-
---edits: tries the edits of tests/faults, which no clause can see: each takes a cure back. The programs are proved and built anew
-with each in a copy of this tree, over the work that a check kept here, and the test that the edit names must fail, of this script or
-of the one before its name. It takes minutes an edit, and is no part of the gate.
 """
 
 import contextlib
@@ -18,7 +14,6 @@ import http.client
 import os
 import re
 import resource
-import shutil
 import signal
 import socket
 import subprocess
@@ -46,6 +41,8 @@ PASSED_OVER = [
 WAITED_FOR = ["EMFILE", "ENFILE", "ENOBUFS", "ENOMEM"]
 # The listening socket is of no use any more.
 LASTING = ["EBADF", "EINVAL", "ENOTSOCK", "EFAULT"]
+# Without these nothing listens.
+OPENS = ["socket", "epoll_create1", "epoll_ctl"]
 FAULT = "device fault\n"
 # How long another client may have to wait for one that holds the server: it is 9 seconds for a pong that is not taken.
 HELD = 45
@@ -170,7 +167,7 @@ class Library(unittest.TestCase):
         """Asserts that it ends by itself with this line, after the one that says where it listens if it could, and the status 5."""
         with Own(app, env={**os.environ, **failing(call, error, **how)}) as own:
             lines, status = own.ended()
-            self.assertEqual((lines[call != "socket" :], status), ([said], 5))
+            self.assertEqual((lines[call not in OPENS :], status), ([said], 5))
 
     def test_a_socket_that_is_refused(self):
         for name in ("EMFILE", "ENFILE", "ENOBUFS"):
@@ -179,17 +176,25 @@ class Library(unittest.TestCase):
                 said = f"cannot listen on 127.0.0.1:0: the system refused it: {servers.system_error(number)}"
                 self.ends(said, "socket", number)
 
+    def test_what_tells_of_sockets_is_refused(self):
+        # Each of several threads has one of its own, with the socket that listens.
+        said = f"cannot listen on 127.0.0.1:0: the system refused it: {servers.system_error(errno.EMFILE)}"
+        for call in ("epoll_create1", "epoll_ctl"):
+            for app, after in (("hello", 0), ("hello threads=2", 0), ("hello threads=2", 1)):
+                with self.subTest(call=call, app=app, after=after):
+                    self.ends(said, call, errno.EMFILE, app, after=after)
+
     def test_a_thread_that_is_refused_ends_the_server(self):
-        # A thread for the tasks of each of its two workers, and then one for each worker.
+        # A thread for the log, one for the tasks of each of its two workers, and then one for each worker.
         for app in ("hello blocking=2", "nostop blocking=2"):
-            for after in range(4):
+            for after in range(1, 5):
                 with self.subTest(app=app, after=after):
                     self.ends("no thread for a worker", "pthread_create", errno.EAGAIN, app, after=after)
 
     def test_a_thread_that_is_refused_to_one_of_several_tables_ends_the_server(self):
-        # One thread for each table but that of the caller. What those that were started were to serve is left.
+        # One thread for the log, and one for each table but that of the caller. What those that were started were to serve is left.
         for workers in (2, 4, 8):
-            for after in range(workers - 1):
+            for after in range(1, workers):
                 with self.subTest(workers=workers, after=after):
                     with Own(f"hello threads={workers}", env={**os.environ, **failing("pthread_create", errno.EAGAIN, after=after)}) as own:
                         lines, status = own.ended()
@@ -443,46 +448,8 @@ def ask_in_vain(server):
     return answer
 
 
-def try_edit(name):
-    """Returns what is wrong with an edit of tests/faults: its test does not fail with it, or nothing can be built."""
-    with open(f"{TOP}/tests/faults/{name}.edit", encoding="utf-8") as it:
-        script, test, file, old, new = re.fullmatch(r"fails: (?:(\w+)\.py )?(\w+)\nfile: (\S+)\nold: (.*)\nnew: (.*)\n", it.read()).groups()
-    with tempfile.TemporaryDirectory() as room:
-        shutil.copytree(TOP, f"{room}/tree", ignore=shutil.ignore_patterns(".git"), copy_function=shutil.copy2)
-        with open(f"{room}/tree/{file}", encoding="utf-8") as it:
-            text = it.read()
-        if text.count(old) != 1:
-            return f"its old text is in {file} {text.count(old)} times"
-        with open(f"{room}/tree/{file}", "w", encoding="utf-8") as it:
-            it.write(text.replace(old, new))
-        # A test of another script asks each server; those that are no fault of it pass.
-        programs = [f"{room}/tree/crates/{it}/out/{it}" for it in (["asgi_demo", "server_for_tests"] if script else ["asgi_demo"])]
-        for program in programs:
-            with contextlib.suppress(FileNotFoundError):
-                os.remove(program)
-            built = subprocess.run(["rt", "run"], cwd=os.path.dirname(os.path.dirname(program)), stdin=subprocess.DEVNULL, capture_output=True, check=False)
-            if not os.path.exists(program):
-                return f"no program is built with it: {(built.stdout + built.stderr).decode(errors='replace')[-500:]}"
-        words = [sys.executable, f"{room}/tree/tests/{script or 'faults'}.py", programs[0], test]
-        said = subprocess.run(words, capture_output=True, check=False).stdout.decode().rstrip("\n").rpartition("\n")[2]
-        return None if re.fullmatch(r"\d passed, [1-9] failed" if script else "0 passed, 1 failed", said) else f"{test} says: {said}"
-
-
-def try_edits(names):
-    names = names or sorted(it.removesuffix(".edit") for it in os.listdir(f"{TOP}/tests/faults"))
-    failed = 0
-    for name in names:
-        why = try_edit(name)
-        print(f"{name}: {why or 'its test fails, as it must'}", flush=True)
-        failed += why is not None
-    print(f"{len(names) - failed} passed, {failed} failed")
-    return 1 if failed or not names else 0
-
-
 def main():
     global LIBRARY
-    if sys.argv[1:2] == ["--edits"]:
-        return try_edits(sys.argv[2:])
     servers.PROGRAM = os.path.abspath(sys.argv[1])
     with tempfile.TemporaryDirectory() as room:
         LIBRARY = f"{room}/fail_once.so"

@@ -34,6 +34,7 @@ from typing import NamedTuple
 
 import fuzz
 from servers import TOP, free_port, listens, wait_for
+from servers_of import NOTES, ROOM
 
 SERVER = f"{TOP}/crates/server_for_tests/out/server_for_tests"
 CLIENTS = 64
@@ -52,6 +53,8 @@ ROOMS = [(0, 0), (0, 0), (0, 536), (1_024, 88), (1_024, 536), (2_304, 0), (2_304
 NARROW = 1
 # What a server writes on standard error.
 LOGGED = re.compile(rb".*(?:listening on |connection \d+: ).*")
+# What it may write besides: of clients that reset their connections, say.
+NOTED = re.compile(f"{NOTES.pattern}|{ROOM.pattern}".encode())
 
 
 class Plan(NamedTuple):
@@ -285,7 +288,7 @@ class Served:
         self.ran.kill()
         self.ran.wait()
         self.errors.seek(0)
-        lines = self.errors.read().splitlines()
+        lines = [it for it in self.errors.read().splitlines() if not NOTED.search(it)]
         self.errors.close()
         if status is not None or not all(map(LOGGED.fullmatch, lines)):
             return f"it ended with status {status}, and said {[it for it in lines if not LOGGED.fullmatch(it)][:5]}"

@@ -23,6 +23,8 @@ PROGRAM = "crates/asgi_demo/out/asgi_demo"
 CI = ["rt", "ci"]
 # What `rt ci` says of a crate that is proved, by itself or by what an earlier run on this machine proved of the same files.
 PROVED = r"rt: (\w+)(?: proved| is kept: an earlier run on this machine proved the same .*)"
+# For how long further edits are begun: a gate that a new toolchain, or a change below all crates, makes too long for CI would never end.
+MINUTES = 90
 # What each part runs, and what its sum counts. The last one runs beside `rt ci`, from whose beginning on.
 PARTS = [
     ("crates in the layout", ["python3", "tests/layout.py"]),
@@ -49,7 +51,7 @@ PARTS = [
     ("inputs of a fuzzer", ["python3", "tests/fuzz.py", "--seconds", "60", PROGRAM]),
     ("self-tests of the gate's scripts", ["python3", "tests/fuzz_sockets.py", "--self-test", PROGRAM]),
     ("clients of a fuzzer", ["python3", "tests/fuzz_sockets.py", "--seconds", "30", PROGRAM]),
-    ("further edits refused", ["python3", "tests/must_fail.py", "--beside"]),
+    ("further edits refused", ["python3", "tests/must_fail.py", "--beside", "--minutes", str(MINUTES)]),
 ]
 SUM = re.compile(r"(\d+) passed, (\d+) failed")
 # What a check takes at the most, in bytes, by what was seen: 2 to 4 GB.

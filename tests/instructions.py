@@ -30,6 +30,7 @@ import termios
 import time
 from typing import NamedTuple
 
+import packages
 from servers import TOP, free_port, listens
 
 FIGURES = f"{TOP}/tests/instructions.txt"
@@ -61,7 +62,7 @@ OK = b"HTTP/1.1 200 OK\r\n"
 LAST = b"\r\n0\r\n\r\n"
 HEAD_END = b"\r\n\r\n"
 # What a server of one connection writes on standard error.
-LOGGED = re.compile(rb".*listening on .*\n.*connection 1: .*, finished\n")
+LOGGED = re.compile(rb".*listening on .*\n(?:.* descriptors .*\n)?.*connection 1: .*, finished\n")
 
 
 def padded(text, size):
@@ -264,10 +265,7 @@ def judged(text, counted):
 
 def install():
     """Installs valgrind where it is missing. Returns whether it is there."""
-    if not shutil.which("valgrind") and shutil.which("apt-get"):
-        how = {"stdout": sys.stderr, "check": False, "env": {**os.environ, "DEBIAN_FRONTEND": "noninteractive"}}
-        subprocess.run(["apt-get", "update", "-qq"], **how)
-        subprocess.run(["apt-get", "install", "-y", "-qq", "--no-install-recommends", "valgrind"], **how)
+    packages.install(lambda: packages.of({"valgrind": "valgrind"}))
     return bool(shutil.which("valgrind"))
 
 

@@ -9,6 +9,7 @@ import contextlib
 import errno
 import os
 import re
+import resource
 import socket
 import subprocess
 import sys
@@ -17,7 +18,11 @@ import unittest
 from concurrent.futures import ThreadPoolExecutor
 
 import servers_of
-from servers import GET, SECONDS, TOP, free_port, install, listens, log_of, read_all, run, system_error, wait_for
+from servers import GET, HANDSHAKE, SECONDS, TOP, free_port, install, listens, log_of, read_all, run, system_error, wait_for
+from servers_of import ROOM
+
+# How many threads the log has.
+LOG = 1
 
 
 class Own:
@@ -26,7 +31,8 @@ class Own:
     def __init__(self, words, address="127.0.0.1:0", count=1, **options):
         words = [servers_of.SERVER, address, str(count), *words.split()]
         pipes = {"stdin": subprocess.DEVNULL, "stdout": subprocess.PIPE, "stderr": subprocess.PIPE}
-        self.ran = subprocess.Popen(words, **pipes, **options)
+        # Nothing of the log is left in a buffer once its first line is read.
+        self.ran = subprocess.Popen(words, bufsize=0, **pipes, **options)
         self.lines = []
 
     def __enter__(self):
@@ -45,9 +51,13 @@ class Own:
         raise AssertionError(f"no line says where it listens: {self.lines}")
 
     def ended(self):
-        """What it wrote to the log, and its status, once it has ended."""
+        """What it wrote to the log, but for a line of descriptors, and its status, once it has ended."""
+        return log_of(self.errors()), self.ran.returncode
+
+    def errors(self):
+        """All that it wrote to the log, once it has ended."""
         _, errors = self.ran.communicate(timeout=SECONDS)
-        return log_of("".join(self.lines) + errors.decode()), self.ran.returncode
+        return "".join(self.lines) + errors.decode()
 
 
 class Library(unittest.TestCase):
@@ -71,8 +81,23 @@ class Library(unittest.TestCase):
             told = [f"listening on http://127.0.0.1:{port}", "connection 1: 1 requests, finished"]
             self.assertEqual(own.ended(), (told, 0))
 
+    def test_too_few_descriptors_are_told_at_the_start(self):
+        # One for each connection and each thread, the standard streams, and the socket that listens.
+        rows = [
+            ("hello", 64, [("64", "10000")]),
+            ("hello slots=60", 64, [("64", "60")]),
+            ("hello slots=59", 64, []),
+            ("hello slots=29 threads=2", 64, []),
+            ("hello slots=30 threads=2", 65, [("65", "60")]),
+            ("hello blocking=8", 32, []),
+        ]
+        for app, files, said in rows:
+            with self.subTest(app=app), Own(app, preexec_fn=lambda: resource.setrlimit(resource.RLIMIT_NOFILE, (files, files))) as own:
+                self.assertEqual(self.get(own.port(), b"/"), b"hello\n")
+                self.assertEqual(ROOM.findall(own.errors()), said)
+
     def test_no_connection_is_told_where_nobody_asked(self):
-        for app in ("quiet", "quiet threads=4", "quiet blocking=2", "quiet inworker=2"):
+        for app in ("quiet", "quiet threads=4", "quiet blocking=2"):
             with self.subTest(app=app), Own(app, count=2) as own:
                 port = own.port()
                 for _ in range(2):
@@ -96,7 +121,7 @@ class Library(unittest.TestCase):
             for line in reversed(lines):
                 line.sendall(GET)
                 self.assertTrue(line.recv(1 << 16).endswith(b"hello\n\r\n0\r\n\r\n"))
-            self.assertEqual(len(os.listdir(f"/proc/{own.ran.pid}/task")), 1)
+            self.assertEqual(len(os.listdir(f"/proc/{own.ran.pid}/task")) - LOG, 1)
             for line in lines:
                 line.close()
             told, status = own.ended()
@@ -112,7 +137,7 @@ class Library(unittest.TestCase):
         with Own(f"hello threads={threads}", count=clients * each) as own:
             port = own.port()
             self.assertEqual(self.get(port, b"/"), b"hello\n")
-            self.assertEqual(len(os.listdir(f"/proc/{own.ran.pid}/task")), threads)
+            self.assertEqual(len(os.listdir(f"/proc/{own.ran.pid}/task")) - LOG, threads)
             with ThreadPoolExecutor(clients + 1) as pool:
                 # What it writes to the log is read meanwhile, since a pipe holds little.
                 ended = pool.submit(own.ended)
@@ -190,7 +215,7 @@ class Library(unittest.TestCase):
         self.refused(f"cannot listen on 192.0.2.1:8000: the address is not one of this machine: {why}", 5, address="192.0.2.1:8000")
 
     def test_numbers_of_workers_that_are_none(self):
-        for place in ("threads", "blocking", "inworker"):
+        for place in ("threads", "blocking"):
             for workers in (0, 9):
                 with self.subTest(place=place, workers=workers):
                     self.refused(f"workers: {workers} is not a number from 1 to 8", 2, f"hello {place}={workers}")
@@ -224,7 +249,7 @@ class Library(unittest.TestCase):
                 self.refused("shutdown failed: no answer", 4, f"{app} idle=50", has_begun=True, count=0)
 
     def test_words_that_are_none(self):
-        usage = b"usage: server_for_tests PORT|ADDRESS COUNT APP [threads=N|blocking=N|inworker=N|slots=N|body=N|idle=N]..\n"
+        usage = b"usage: server_for_tests PORT|ADDRESS COUNT APP [threads=N|blocking=N|slots=N|body=N|idle=N]..\n"
         good = ["127.0.0.1:0", "1", "hello"]
         rows = [good[:number] for number in range(3)] + [[word, *good[1:]] for word in ("127.0.0.1", "127.0.0.1:65536", "65536")]
         rows += [["127.0.0.1:0", "one", "hello"], [*good[:2], "Hello"], *([*good, word] for word in ("threads", "threads=", "threads=x", "thread=1", "=1", "idle=4294967296"))]
@@ -262,7 +287,7 @@ class Library(unittest.TestCase):
         return found
 
     def test_what_was_said_leaves_before_the_work_that_follows(self):
-        # A task in its worker that works holds up what is written to its client, as `in_worker` says: it is to wait, or to have a thread.
+        # A task in its connection's thread that works holds up what is written to its client: it is to wait, or to have a thread.
         for app in ("works blocking=2", "waits", "waits threads=4"):
             with self.subTest(app=app), Own(app) as own:
                 with socket.create_connection(("127.0.0.1", own.port()), timeout=SECONDS) as line:
@@ -271,7 +296,7 @@ class Library(unittest.TestCase):
                     self.assertGreater(last - first, 0.7)
 
     def test_an_answer_leaves_before_the_work_of_the_request_behind_it(self):
-        for app in ("works blocking=2", "works inworker=2", "waits", "waits threads=4"):
+        for app in ("works blocking=2", "waits", "waits threads=4"):
             with self.subTest(app=app), Own(app) as own:
                 with socket.create_connection(("127.0.0.1", own.port()), timeout=SECONDS) as line:
                     line.sendall(b"GET / HTTP/1.1\r\nHost: a\r\n\r\nGET /works HTTP/1.1\r\nHost: a\r\nConnection: close\r\n\r\n")
@@ -349,6 +374,35 @@ class Library(unittest.TestCase):
                 ends = sorted(line.partition(": ")[2] for line in told[1:])
                 self.assertEqual(ends, ["1 requests, finished"] * 6)
                 self.assertEqual(status, 0)
+
+    def test_a_session_whose_client_does_not_answer_hears_1011(self):
+        """In seconds: a client of each engine is asked after 20, and given up 20 later; one that answers stays until then."""
+        with contextlib.ExitStack() as stack:
+            owns = [stack.enter_context(Own(app, count=2)) for app in ("hears", "hears threads=2")]
+            lines = [[stack.enter_context(self.opened(port)) for _ in range(2)] for port in [own.port() for own in owns]]
+            for mute, answers in lines:
+                self.assertEqual([it.recv(2) for it in (mute, answers)], [b"\x89\x00"] * 2)
+                answers.sendall(b"\x8a\x80" + bytes(4))
+            for own, (mute, answers) in zip(owns, lines):
+                # 1011, "an unexpected condition" (RFC 6455, section 7.4.1).
+                self.assertEqual(read_all(mute), b"\x88\x02\x03\xf3")
+                answers.sendall(b"\x88\x82" + bytes(4) + b"\x03\xe8")
+                self.assertEqual(read_all(answers).removeprefix(b"\x89\x00"), b"\x88\x02\x03\xe8")
+                mute.close()
+                answers.close()
+                told, status = own.ended()
+                self.assertEqual(sorted(line.partition(": ")[2] or line for line in told[1:]), ["1 requests, finished", "1 requests, finished", "disconnect 1000", "disconnect 1011"])
+                self.assertEqual(status, 0)
+
+    def opened(self, port):
+        """A connection in a session, of whose answer nothing follows the head."""
+        line = socket.create_connection(("127.0.0.1", port), timeout=SECONDS)
+        line.sendall(HANDSHAKE)
+        head = b""
+        while not head.endswith(b"\r\n\r\n"):
+            head += line.recv(1)
+        self.assertTrue(head.startswith(b"HTTP/1.1 101 "))
+        return line
 
     def begun(self, port):
         """A connection whose first request was answered."""

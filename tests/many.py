@@ -11,11 +11,11 @@ import os
 import shutil
 import socket
 import struct
-import subprocess
 import sys
 import time
 from concurrent.futures import ThreadPoolExecutor
 
+import packages
 import servers_of
 from servers import GET, GREETING, HANDSHAKE, SECONDS, free_port, read_all, run
 from servers_of import FOUR, ONE, WORKERS, Running, asks, well
@@ -180,8 +180,7 @@ class Many:
 
 def main():
     servers_of.DEMO = os.path.abspath(sys.argv[1])
-    if not shutil.which("wrk"):
-        subprocess.run(["apt-get", "install", "-y", "-q", "wrk"], stdout=subprocess.DEVNULL, stderr=subprocess.DEVNULL, check=False)
+    packages.install(lambda: packages.of({"wrk": "wrk"}))
     return servers_of.run_tests(__name__)
 
 

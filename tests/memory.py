@@ -25,6 +25,7 @@ from collections import Counter
 from concurrent.futures import ThreadPoolExecutor
 
 import servers
+from servers_of import MOMENT
 
 HERE = os.path.dirname(os.path.realpath(__file__))
 CRATES = f"{os.path.dirname(HERE)}/crates"
@@ -253,16 +254,20 @@ def judge_served(whole):
 
 
 # The words of a server that serves no connection, and the texts of the log that say what it lacks: memory, or what needs it.
-OWN_RUNS = [["127.0.0.1:0", "0", *words] for words in (["hello", "blocking=2"], ["ends", "blocking=2"], ["hello"], ["hello", "threads=2"])]
-OWN_USAGE = b"usage: server_for_tests PORT|ADDRESS COUNT APP [threads=N|blocking=N|inworker=N|slots=N|body=N|idle=N]..\n"
-LISTENS = rb"\[INFO  \S+\] listening on http://127\.0\.0\.1:\d+\n"
-OWN_LACKS = rb"\[ERROR \S+\] (out of memory|no thread for a worker|cannot listen on 127\.0\.0\.1:0: the system refused it: [^\n]*)\n"
+OWN_RUNS = [["127.0.0.1:0", "0", *words] for words in (["hello", "blocking=2"], ["ends", "blocking=2"], ["hello", "slots=64"], ["hello", "threads=2", "slots=64"])]
+OWN_USAGE = b"usage: server_for_tests PORT|ADDRESS COUNT APP [threads=N|blocking=N|slots=N|body=N|idle=N]..\n"
+LISTENS = MOMENT.encode() + rb"\[INFO  \S+\] listening on http://127\.0\.0\.1:\d+\n"
+# What the log says of memory that it lacks: for one of its lines, or for its thread.
+LOG_LACKS = MOMENT.encode() + rb"\[WARN  asgi_log\S*\] (?:1 line of the log was lost|no thread for the log: [^\n]*)\n"
+OWN_LACKS = MOMENT.encode() + rb"\[ERROR \S+\] (out of memory|no thread for a worker|cannot listen on 127\.0\.0\.1:0: the system refused it: [^\n]*)\n"
 
 
 def judge_own(refused, status, output, errors):
     """The server starts, stops and ends well, or says what it lacks, with the status 5; without its words it says how it is called."""
     if status == 0 and output == b"" and re.fullmatch(LISTENS, errors):
         return "whole", None
+    if refused and status == 0 and output == b"" and re.fullmatch(rb"%s(?:%s)?" % (LOG_LACKS, LISTENS), errors):
+        return "log", None
     lacks = re.fullmatch(rb"(?:%s)?%s" % (LISTENS, OWN_LACKS), errors)
     if refused and status == 5 and output == b"" and lacks:
         return lacks[1].decode().partition(" on ")[0], None

@@ -20,7 +20,7 @@ from concurrent.futures import ThreadPoolExecutor
 
 from memory import ANSWERED, FAULTED, GET, HELLO, SESSION, Refusing, connected
 from servers import free_port
-from servers_of import LISTENS, SERVER, report_of
+from servers_of import LISTENS, MOMENT, NOTES, ROOM, SERVER, report_of
 
 UPLOAD = b"POST /length HTTP/1.1\r\nHost: a\r\nContent-Length: 40000\r\n\r\n" + b"u" * 40_000
 COUNTED = b"HTTP/1.1 200 OK\r\ncontent-type: text/plain; charset=utf-8\r\ncontent-length: 6\r\n\r\n40000\n"
@@ -34,7 +34,9 @@ ROWS = [
     ("wsecho", SESSION, ANSWERED, "1 finished", False),
     ("handles", BIG, BYTES, "1 finished", True),
 ]
-LACKS = re.compile(r"\[ERROR \S+\] (out of memory|no thread for a worker|cannot listen on \S+: the system refused it: .*)")
+LACKS = re.compile(MOMENT + r"\[ERROR \S+\] (out of memory|no thread for a worker|cannot listen on \S+: the system refused it: .*)")
+# What the log says of memory that it lacks: for one of its lines, or for its thread.
+LOG_LACKS = re.compile(MOMENT + r"\[WARN  asgi_log\S*\] (1 line of the log was lost|no thread for the log: .*)")
 # How many more clients a server is given, in place of those that were lost before they were accepted.
 MORE = 50
 
@@ -110,9 +112,10 @@ def judge(row):
         told = {it.port: f"{it.requests} {it.how}" for it in reports}
         # A line has no client where memory for its address was refused.
         unnamed = sum(not it.host for it in reports)
-        others = [it for it in lines if not report_of(it) and not LISTENS.fullmatch(it)]
+        log_lacks = [it for it in lines if refused and LOG_LACKS.fullmatch(it)][:1]
+        others = [it for it in lines if not report_of(it) and not LISTENS.fullmatch(it) and it not in log_lacks and not NOTES.search(it) and not ROOM.search(it)]
         wrong = [it.answer[-200:] for it in clients if not is_part(it.answer, whole)]
-        wrong += [told.get(it.port) for it in clients if it.answer == whole and told.get(it.port, report if unnamed else None) != report]
+        wrong += [told.get(it.port) for it in clients if it.answer == whole and told.get(it.port, report if unnamed or log_lacks else None) != report]
         lacks = LACKS.fullmatch(others[0]) if len(others) == 1 else None
         # It lacks memory for its words, or for the application that it is to serve.
         if refused and status in (2, 5) and not lines:
@@ -124,7 +127,7 @@ def judge(row):
         if lacks:
             return lacks[1].partition(" on ")[0], None
         others = [how for how in told.values() if how != report and not how.startswith("1 write-failed")]
-        return ("whole" if not others else others[0]), None
+        return ("whole" if not others and not log_lacks else (others or ["log"])[0]), None
 
     return judged
 

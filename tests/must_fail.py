@@ -1,5 +1,5 @@
 #!/usr/bin/env python3
-"""must_fail.py [--all] [--read] [--warm] [--beside] [--jobs N] [--part I/N] [NAME..]: whether the prover refuses each edit.
+"""must_fail.py [--all] [--read] [--warm] [--beside] [--minutes N] [--jobs N] [--part I/N] [NAME..]: whether the prover refuses each edit.
 
 Tries the edits tests/edits/NAME/*.edit, of all crates or of those named, side by side. The prover must refuse each. The
 form of an edit, the verdict and its words are the toolchain's, by the code of `rt must-fail`. Beyond that, each edit
@@ -24,12 +24,15 @@ doubt is tried alone, and one that is in doubt then, by a check of the whole cra
 --warm: begins with what the crates' own checks left in out/, and leaves the record as it is. For use while you write.
 --beside: beside a run of `rt ci`, of which the input names each crate that it has proved, a line each, and which ends where the input ends. It takes what that run leaves of the processors, and tries the edits of a crate
 once that run has proved it; what is left when it has ended is tried as without this word.
+--minutes N: no edit is begun N minutes after the start. What is left stays due, as the record has it, and how many those are is told: a new
+toolchain, or a change below all crates, makes more due than one run has time for.
 --jobs N: at most N checks at a time; else as many as there are processors and memory, as under `rt ci`.
 --part I/N: each Nth edit, from the Ith on, for N machines that share the work.
 """
 
 import argparse
 import copy
+import math
 import os
 import re
 import shutil
@@ -62,6 +65,7 @@ def read_words(words):
     parser = argparse.ArgumentParser(usage=__doc__)
     for flag in ("--all", "--read", "--warm", "--beside"):
         parser.add_argument(flag, action="store_true")
+    parser.add_argument("--minutes", type=float, default=math.inf)
     parser.add_argument("--jobs", default="")
     parser.add_argument("--part", type=part_of, default=(0, 1))
     parser.add_argument("names", nargs="*")
@@ -269,6 +273,8 @@ class Trial:
         self.said = threading.local()
         # What was tried before the lanes begin.
         self.given = {}
+        # Until when edits are begun, and how many are left then.
+        self.until, self.left = time.time() + 60 * choice.asked.minutes, 0
         checked = rt.checked
 
         def listened(*given):
@@ -347,14 +353,23 @@ class Trial:
         if not given[crate.name, "proof"]:
             return [(False, f"{label_of(crate, it)}: not tried") for it in edits]
         began = time.time()
-        clear = self.cleared(crate, edits)
+        clear = [] if began > self.until else self.cleared(crate, edits)
         each = (time.time() - began) / len(edits)
         for edit in clear:
             print(f"{label_of(crate, edit)}: refused, as it must be, with {len(edits) - 1} others ({each:.0f} s)", flush=True)
-        found = [(True, "") if it in clear else self.attempt(crate, it) for it in edits]
-        false = self.choice.note(crate, edits, [it[0] for it in found])
+        found = {edit: (True, "") for edit in clear}
+        for edit in edits:
+            if edit not in found and time.time() <= self.until:
+                found[edit] = self.attempt(crate, edit)
+        self.leave(len(edits) - len(found))
+        false = self.choice.note(crate, [*found], [refused for refused, _ in found.values()])
         why = f"\nand yet {record.PATH} says that it was refused, with nothing changed since: that line is forged or stale"
-        return [(refused, text + why * is_false) for (refused, text), is_false in zip(found, false)]
+        return [(refused, text + why * is_false) for (refused, text), is_false in zip(found.values(), false)]
+
+    def leave(self, number):
+        """Counts edits that are left for another run."""
+        with self.choice.alone:
+            self.left += number
 
     def groups(self):
         """Returns the groups of edits to try, by crate, lowest first."""
@@ -418,6 +433,8 @@ class Trial:
         given = self.rt.in_lanes(self.tasks())
         given |= {key: it.result() for key, it in self.given.items() if key[1] == "edits"}
         found = [it for key, its in given.items() if key[1] == "edits" for it in its]
+        if self.left:
+            print(f"edits: {self.left} were not begun within {self.choice.asked.minutes:g} minutes, and are as due as before", flush=True)
         return sum(refused for refused, _ in found), [text for refused, text in found if not refused]
 
 

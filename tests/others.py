@@ -14,13 +14,12 @@ discard bodies.
 import ast
 import os
 import re
-import shutil
 import socket
 import subprocess
-import sys
 import tempfile
 from concurrent.futures import ThreadPoolExecutor
 
+import packages
 from servers import free_port, listens, wait_for
 
 TOP = os.path.dirname(os.path.dirname(os.path.realpath(__file__)))
@@ -140,11 +139,7 @@ def sums(rows, answers, at):
 
 
 def main():
-    missing = [package for name, package in PACKAGES.items() if not shutil.which(name)]
-    if missing:
-        # None of them is to serve by itself.
-        how = {"stdout": sys.stderr, "check": False, "env": {**os.environ, "DEBIAN_FRONTEND": "noninteractive", "RUNLEVEL": "1"}}
-        subprocess.run(["apt-get", "install", "-y", "-qq", "--no-install-recommends", *missing], **how)
+    packages.install(lambda: packages.of(PACKAGES))
     with tempfile.TemporaryDirectory() as room, ThreadPoolExecutor(8) as pool:
         found, told = [], []
         try:

@@ -6,6 +6,8 @@ The clients are Python's `http.client` and sockets of this script. Each server i
 """
 
 import http.client
+import os
+import signal
 import socket
 import sys
 import threading
@@ -59,6 +61,9 @@ def is_refused(port):
         socket.create_connection(("127.0.0.1", port), timeout=SECONDS).close()
     except ConnectionRefusedError:
         return True
+    except ConnectionResetError:
+        # The port was closed while this one waited to be accepted.
+        return False
     return False
 
 
@@ -172,6 +177,31 @@ class Ending(unittest.TestCase):
                     begun.sendall(b"bc")
                     self.assertIn(b"/last", read_all(begun))
                 self.assertEqual(own.ended()[1], 0)
+
+
+    def test_who_has_connected_as_it_is_to_stop_is_served(self):
+        # It stands still while they connect and send. As it goes on sixteen of them come before those that sit have their turns.
+        with Own("ends slots=64", count=1000) as own:
+            port = own.port()
+            with socket.create_connection(("127.0.0.1", port), timeout=SECONDS) as line:
+                line.sendall(b"GET /first HTTP/1.1\r\nHost: a\r\n\r\n")
+                self.assertIn(b"/first", line.recv(1 << 16))
+                os.kill(own.ran.pid, signal.SIGSTOP)
+                line.sendall(b"GET /end HTTP/1.1\r\nHost: a\r\nConnection: close\r\n\r\n")
+                queued = [socket.create_connection(("127.0.0.1", port), timeout=SECONDS) for _ in range(40)]
+                for it in queued:
+                    it.sendall(b"POST /last HTTP/1.1\r\nHost: a\r\nContent-Length: 3\r\n\r\nabc")
+                os.kill(own.ran.pid, signal.SIGCONT)
+                answers = []
+                for it in queued:
+                    with it:
+                        try:
+                            answers.append(b"/last" in read_all(it))
+                        except ConnectionError:
+                            answers.append(False)
+                self.assertEqual(answers, [True] * len(queued))
+            self.assertTrue(is_refused_soon(port))
+            self.assertEqual(own.ended()[1], 0)
 
 
 def main():

@@ -29,9 +29,11 @@ import threading
 import time
 import unittest
 
+import packages
+from servers_of import MOMENT, ROOM
+
 PROGRAM = ""
 TOP = os.path.dirname(os.path.dirname(os.path.realpath(__file__)))
-PYTHON = "/usr/bin/python3"
 PACKAGES = {"curl": "curl", "ab": "apache2-utils", "wrk": "wrk", "nginx": "nginx-light", "haproxy": "haproxy"}
 SECONDS = 60
 # The largest body that the usual limits take.
@@ -161,8 +163,10 @@ class Example(unittest.TestCase):
 
 
 def log_of(errors):
-    """The lines that a program over `nomtsage` wrote to the log, without what stands before each text and without clients."""
-    return [re.sub(r": \S+ port \d+, ", ": ", line.partition("] ")[2]) for line in errors.splitlines()]
+    """The lines that a program over `nomtsage` wrote to the log, without their time, level and place, without clients and the one of descriptors."""
+    texts = [re.fullmatch(MOMENT + r"\[[A-Z]+ +\S+\] (.*)", line) for line in errors.splitlines()]
+    texts = [it for it in texts if not it or not ROOM.fullmatch(it[1])]
+    return [re.sub(r": \S+ port \d+, ", ": ", it[1]) if it else "no line of a log" for it in texts]
 
 
 def system_error(number):
@@ -746,24 +750,10 @@ class BehindHaproxy(Behind, unittest.TestCase):
         return Haproxy(*servers, words=haproxy_before_workers)
 
 
-def has_websockets():
-    words = [PYTHON, "-c", "import websockets"]
-    return os.path.isfile(PYTHON) and subprocess.run(words, stderr=subprocess.DEVNULL, check=False).returncode == 0
-
-
 def install():
     """Installs what is missing, as far as it can be had, and goes on in Debian's Python."""
-    missing = [package for name, package in PACKAGES.items() if not shutil.which(name)]
-    missing += [] if has_websockets() else ["python3", "python3-websockets"]
-    if missing and shutil.which("apt-get"):
-        how = {"stdout": sys.stderr, "check": False, "env": {**os.environ, "DEBIAN_FRONTEND": "noninteractive"}}
-        subprocess.run(["apt-get", "update", "-qq"], **how)
-        for package in missing:
-            # One that can't be had does not keep the others away; nginx is not to serve by itself.
-            words = ["apt-get", "install", "-y", "-qq", "--no-install-recommends", package]
-            subprocess.run(words, **{**how, "env": {**how["env"], "RUNLEVEL": "1"}})
-    if has_websockets() and os.path.realpath(sys.executable) != os.path.realpath(PYTHON):
-        os.execv(PYTHON, [PYTHON, *sys.argv])
+    packages.install(lambda: packages.of(PACKAGES) + packages.websockets())
+    packages.go_to_debians_python()
 
 
 def versions():

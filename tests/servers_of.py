@@ -36,9 +36,17 @@ STARTS = {
     FOUR: lambda port, count, app: [SERVER, str(port), str(count), app, "threads=4"],
     WORKERS: lambda port, count, app: [DEMO, "serve", str(port), str(count), app],
 }
+# What each line of the log begins with, if the clock tells it: its time (RFC 3339, section 5.6), in UTC and with milliseconds.
+MOMENT = r"\d{4}-\d\d-\d\dT\d\d:\d\d:\d\d\.\d{3}Z "
 # The first column is printed by workers for a connection, the others stand in the log of a program over `Server`.
-REPORT = re.compile(r"(?P<number>\d+) (?P<report>\d+ [a-z].*)|\[INFO  \S+\] connection (?P<line>\d+): (?:(?P<host>\S+) port (?P<port>\d+), )?(?P<requests>\d+) requests, (?P<how>.*)")
-LISTENS = re.compile(r"\[INFO  \S+\] listening on http://\S+")
+REPORT = re.compile(r"(?P<number>\d+) (?P<report>\d+ [a-z].*)|(?:" + MOMENT + r")?\[INFO  \S+\] connection (?P<line>\d+): (?:(?P<host>\S+) port (?P<port>\d+), )?(?P<requests>\d+) requests, (?P<how>.*)")
+# What a reactor tells: of bytes that have not left, of connections that it closed as they came, and of newcomers that wait.
+NOTES = re.compile(r"\d+ bytes for \S+ port \d+ (could not be sent|were not taken in time)|\d+ more clients were not sent all|\d+ connections were closed as they came|newcomers have waited for")
+LISTENS = re.compile(MOMENT + r"\[INFO  \S+\] listening on http://\S+")
+# What stands in the place of lines that found no memory, or no room.
+LOST = re.compile(r"(?:1 line of the log was|(\d+) lines of the log were) lost")
+# What it tells at the start, if there may be fewer descriptors than connections: of a machine, not of what was asked.
+ROOM = re.compile(r"(\d+) descriptors \(ulimit -n\) do not suffice for (\d+) connections at the same time")
 # What a server says at the end, where the listening socket has failed: workers in their own words, the others with the system's.
 FAILED = {
     WORKERS: lambda error: "device fault",
@@ -119,7 +127,8 @@ class Running:
         pipes = {"stdin": subprocess.DEVNULL, "stdout": subprocess.PIPE, "stderr": subprocess.PIPE}
         self.ran = subprocess.Popen(words, env={**os.environ, **(env or {})}, preexec_fn=before, **pipes)
         # A pipe holds little, so what it prints is read as it comes.
-        self.lines, self.reads = [], [threading.Thread(target=self.read, args=(it,), daemon=True) for it in (self.ran.stdout, self.ran.stderr)]
+        self.notes, self.lost, self.lines = [], 0, []
+        self.reads = [threading.Thread(target=self.read, args=(it,), daemon=True) for it in (self.ran.stdout, self.ran.stderr)]
         for it in self.reads:
             it.start()
 
@@ -197,10 +206,14 @@ class Running:
         self.ran.wait(timeout=SECONDS)
         for it in self.reads:
             it.join()
+        said = [re.sub(rf"^(?:{MOMENT})?\[\w+ +\S+\] ", "", it) for it in self.lines if not report_of(it) and not LISTENS.fullmatch(it)]
+        self.lost = sum(int(it[1] or 1) for it in map(LOST.fullmatch, said) if it)
+        said = [it for it in said if not ROOM.fullmatch(it) and not LOST.fullmatch(it)]
         reports = sorted(self.reports())
-        if [it.number for it in reports] != list(range(1, len(reports) + 1)):
+        numbers = [it.number for it in reports]
+        if numbers != sorted(set(numbers)) or numbers and numbers[-1] - len(numbers) > self.lost:
             raise AssertionError(f"the connections are not numbered: {self.lines}")
-        others = [re.sub(r"^\[\w+ +\S+\] ", "", it) for it in self.lines if not report_of(it) and not LISTENS.fullmatch(it)]
+        self.notes, others = [it for it in said if NOTES.match(it)], [it for it in said if not NOTES.match(it)]
         return Ended([f"{it.requests} {it.how}" for it in reports], others, self.ran.returncode)
 
 

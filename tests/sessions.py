@@ -10,7 +10,6 @@ Expected bytes are those of RFC 6455, and never what the program wrote before.
 import asyncio
 import os
 import select
-import shutil
 import socket
 import struct
 import subprocess
@@ -20,11 +19,11 @@ import time
 from concurrent.futures import ThreadPoolExecutor
 
 import fuzz
+import packages
 import servers_of
 from servers import free_port
 from servers_of import FOUR, ONCE, ONE, WORKERS, Running, asks
 
-PYTHON = "/usr/bin/python3"
 # How long a client waits for bytes, and how long a program may take to end once its connection has.
 SECONDS = 30
 
@@ -779,27 +778,11 @@ class Messages(Case):
                 self.assertEqual((program.returncode, errors), (0, b""))
 
 
-def has_client():
-    if not os.path.isfile(PYTHON):
-        return False
-    words = [PYTHON, "-c", "import websockets"]
-    return subprocess.run(words, stderr=subprocess.DEVNULL, check=False).returncode == 0
-
-
-def go_to_the_client():
-    """Installs Debian's Python and its `websockets` where they are missing, and goes on in that Python."""
-    if not has_client() and shutil.which("apt-get"):
-        subprocess.run(["apt-get", "update", "-qq"], stdout=sys.stderr, check=False)
-        words = ["apt-get", "install", "-y", "-qq", "python3", "python3-websockets"]
-        subprocess.run(words, stdout=sys.stderr, check=False, env={**os.environ, "DEBIAN_FRONTEND": "noninteractive"})
-    if not has_client():
-        sys.exit(f"{PYTHON} has no `websockets`: install Debian's python3-websockets")
-    if os.path.realpath(sys.executable) != os.path.realpath(PYTHON):
-        os.execv(PYTHON, [PYTHON, *sys.argv])
-
-
 def main():
-    go_to_the_client()
+    packages.install(packages.websockets)
+    if not packages.has_websockets():
+        sys.exit(f"{packages.PYTHON} has no `websockets`: install Debian's python3-websockets")
+    packages.go_to_debians_python()
     servers_of.DEMO = os.path.abspath(sys.argv[1])
     return servers_of.run_tests(__name__)
 

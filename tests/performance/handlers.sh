@@ -4,10 +4,10 @@
 #             `asgi_demo once hello`, and of a program whose handler replies the same. A long run less a short one, divided
 #             by the requests between them. The C library copies by the same instructions whatever the size.
 #   JSON      answers a second to POST requests whose body is 1 KiB of JSON, which is parsed, and sent back as what it was
-#             parsed to: by `Server` of nomtsage with tasks in threads and in its workers (`in_worker`), four workers each,
-#             and with all connections in one thread (`in_seats`), and by Debian's uvicorn with its fast parts (httptools and
-#             uvloop), in one process. wrk with one thread, and 1, 4 and 64 connections, but for workers 1 and 4; by turns, so
-#             many rounds of 4 seconds; the median.
+#             parsed to: by `Server` of nomtsage with four workers whose tasks are in threads (`in_threads`), with all
+#             connections in four threads (`threads`) and in one (`in_seats`), and by Debian's uvicorn with its fast parts
+#             (httptools and uvloop), in one process. wrk with one thread, and 1, 4 and 64 connections, but for workers 1 and 4;
+#             by turns, so many rounds of 4 seconds; the median.
 # Usage: tests/performance/handlers.sh [ROUNDS [PROGRAM [HANDLERS]]]
 # ROUNDS is 3 unless given. What is not given is proved and built: PROGRAM by `make demo`, HANDLERS from the text below, in a
 # folder of its own over copies of the crates. It needs valgrind, wrk and uvicorn, and installs Debian's where one is missing.
@@ -22,7 +22,7 @@ library=$library:glibc.cpu.x86_non_temporal_threshold=1000000000
 
 handlers_text() {
   cat <<'P'
-//! A handler that greets, and sends JSON back: over standard input and output, or on a port by four workers.
+//! A handler that greets, and sends JSON back: over standard input and output, or on a port.
 #![tactic(auto)]
 
 use asgi_conn::{CountingPause, Inline, serve_connection};
@@ -56,16 +56,16 @@ impl Handler for Speaks {
 /// Where tasks run.
 #[derive(Clone, Copy)]
 enum How {
-    Threads,
     Workers,
+    Threads,
     Seats,
 }
 
 fn main(rt: HostRuntime) -> ExitCode {
     match asked(&rt) {
         (0, _) => once(rt),
-        (port, How::Threads) => Server::on(port).in_threads().workers(4).serve(&rt, &Handled::new(Speaks)),
-        (port, How::Workers) => Server::on(port).in_worker(&rt).workers(4).serve(&rt, &Handled::new(Speaks)),
+        (port, How::Workers) => Server::on(port).in_threads().workers(4).serve(&rt, &Handled::new(Speaks)),
+        (port, How::Threads) => Server::on(port).in_seats(1_000).threads(4).serve(&rt, &Handled::new(Speaks)),
         (port, How::Seats) => Server::on(port).in_seats(1_000).serve(&rt, &Handled::new(Speaks)),
     }
 }
@@ -73,7 +73,7 @@ fn main(rt: HostRuntime) -> ExitCode {
 /// The port, 0 for none, and where tasks run.
 fn asked<H: Env + AllocGlobal>(rt: &H) -> (u16, How) {
     let Ok(mut words) = env::args(rt) else {
-        return (0, How::Threads);
+        return (0, How::Workers);
     };
     let _name = words.next();
     let port = match words.next() {
@@ -81,8 +81,8 @@ fn asked<H: Env + AllocGlobal>(rt: &H) -> (u16, How) {
         None => 0,
     };
     let how = match words.next() {
-        Some(word) => if word.as_str() == "worker" { How::Workers } else { How::Seats },
-        None => How::Threads,
+        Some(word) => if word.as_str() == "threads" { How::Threads } else { How::Seats },
+        None => How::Workers,
     };
     (port, how)
 }
@@ -205,8 +205,8 @@ open(sys.argv[1] + "/post.lua", "w").write("wrk.method = 'POST'\nwrk.headers['Co
 P
   application_text >"$folder/speaks.py"
   for ((round = 0; round < rounds; round++)); do
-    rates '1 4' "$handlers" PORT | tr '\n' ' ' >>"$folder/threads"
-    rates '1 4' "$handlers" PORT worker | tr '\n' ' ' >>"$folder/worker"
+    rates '1 4' "$handlers" PORT | tr '\n' ' ' >>"$folder/workers"
+    rates '1 4 64' "$handlers" PORT threads | tr '\n' ' ' >>"$folder/threads"
     rates '1 4 64' "$handlers" PORT seats | tr '\n' ' ' >>"$folder/seats"
     rates '1 4 64' /usr/bin/python3 -m uvicorn --workers 1 --no-access-log --http httptools --loop uvloop --port PORT --app-dir "$folder" speaks:app | tr '\n' ' ' >>"$folder/uvicorn"
   done
@@ -218,10 +218,10 @@ def median(name, at, many):
     figures = [float(it) for it in open(f"{sys.argv[1]}/{name}").read().split()][at::many]
     return statistics.median(figures)
 
-print("| answers a second to 1 KiB of JSON, median | tasks in a thread | in_worker | in_seats | uvicorn, httptools, uvloop | of uvicorn's: thread, in_worker, in_seats |")
+print("| answers a second to 1 KiB of JSON, median | four workers | four threads | one thread | uvicorn, httptools, uvloop | of uvicorn's: workers, threads, one |")
 print("|---|---|---|---|---|---|")
 for at, count in enumerate((1, 4, 64)):
-    ours = [median(name, at, 2) if at < 2 else None for name in ("threads", "worker")] + [median("seats", at, 3)]
+    ours = [median("workers", at, 2) if at < 2 else None, median("threads", at, 3), median("seats", at, 3)]
     theirs = median("uvicorn", at, 3)
     rates = [f"{it:,.0f}" if it else "" for it in (*ours, theirs)]
     ratios = ", ".join(f"{it / theirs:.1f}" if it else "-" for it in ours)
